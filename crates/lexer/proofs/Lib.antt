@@ -1,0 +1,13 @@
+pub mod Pieces
+pub mod Tables
+pub mod Firsts
+pub mod Digit_runs
+pub mod Steps
+pub mod Unique
+pub mod Powers
+pub mod Amounts
+pub mod Tens
+pub mod Decodings
+pub mod Verdicts
+pub mod Tallying
+pub mod Lines

@@ -1,0 +1,21 @@
+// Reads a sheet: from bytes to tokens, numbers as exact decimals, and strings as code units.
+mod classes;
+pub mod decimal;
+pub mod decimals;
+mod escapes;
+mod exponent;
+pub mod reasons;
+pub mod refusal;
+mod gaps;
+pub mod kinds;
+mod mantissa;
+mod marks;
+mod numbers;
+pub mod positions;
+pub mod read;
+pub mod reader;
+mod runs;
+pub mod scan;
+mod sizes;
+pub mod strings;
+mod tokens;
