@@ -1,5 +1,6 @@
 pub mod Pieces
 pub mod Tables
+pub mod Word_rows
 pub mod Firsts
 pub mod Digit_runs
 pub mod Steps
@@ -8,6 +9,7 @@ pub mod Powers
 pub mod Amounts
 pub mod Tens
 pub mod Decodings
+pub mod Short_numbers
 pub mod Verdicts
 pub mod Tallying
 pub mod Lines

@@ -5,7 +5,7 @@ use mathlib.Core.List.{List}
 use Prim.Native.Nat.{ℕ, _+_, _-_, _≤_, _<_}
 use native.Mathlib.Omega.{arith}
 use lib.ListN.{length, take, drop, length-drop}
-use Rattle.std.proofs.shelf.Lists.{length-take-le}
+use Rattle.std.proofs.shelf.Lists.{length-take-le, take-rest, drop-drop}
 use Rattle.std.proofs.shelf.Tests.{cases-lt}
 use Rattle.lexer.specs.Gaps.{Gap}
 use Rattle.lexer.specs.Tokens.{Token-at}
@@ -17,6 +17,10 @@ use Rattle.lexer.specs.Reading.{Why, Given, Stopped, Finished, Reads}
 use Rattle.lexer.specs.declared.refusal.Refusal.{Refusal}
 use Rattle.lexer.specs.declared.read.Token.{Token}
 use Rattle.lexer.proofs.Firsts.{token-some}
+
+-- what follows the gap in what is left
+pub past-gap : (sheet : List ℕ) (at g : ℕ) (l : List ℕ) → l ≡ drop at sheet → take (length l - g) (drop g l) ≡ drop (at + g) sheet
+past-gap sheet at g l e = take-rest l g ∙ ap (drop g) e ∙ drop-drop g at sheet
 
 -- l and r are what is left of the sheet, before and after the gap
 module _ (sheet : List ℕ) (at g : ℕ) (l r : List ℕ) (before : l ≡ drop at sheet) (after : r ≡ drop (at + g) sheet) (gap : Gap l g) (within : g ≤ length l) where

@@ -44,7 +44,6 @@ some-once e f = cc
 not-both : {q : ℕ} {r : Option ℕ} → r ≡ None → r ≡ Some q → ⊥
 not-both e f = let z : _≡_ {A = ℕ} 0 1 = cc in omega arith
 
-
 last-seen : {sheet : List ℕ} {s : Tok} {p : ℕ} → Broken-line sheet (s ∷ []) p → ⊥
 last-seen (broken-line t u (next-later n) o f e) = elim n [ ]
 
@@ -61,87 +60,90 @@ module _ (sheet : List ℕ) (at next : ℕ) (a b : Tally) (t : Token)
     (line : Recorded a sheet t (b .line))
     (end : b .end ≡ t .at + length (t .text .now))
     (returns : Decides (b .returns) (t .text .now ≡ codes "return"))
-    where
-  abbrev tok : Tok
-  tok = (t .kind, at + g .gap, length (t .text .now))
+  where
+    abbrev tok : Tok
+    tok = (t .kind, at + g .gap, length (t .text .now))
 
-  on : (at < next) × (next ≤ length sheet)
-  on = onward sheet at t next inside g
+    on : (at < next) × (next ≤ length sheet)
+    on = onward sheet at t next inside g
 
-  -- its text is the token's
-  worded : text sheet tok ≡ t .text .now
-  worded = sym (g .text)
+    -- its text is the token's
+    worded : text sheet tok ≡ t .text .now
+    worded = sym (g .text)
 
-  still-seen : (p : ℕ) → Seen a p → Seen b p
-  still-seen p s = go line
-    where
-      go : Recorded a sheet t (b .line) → Seen b p
-      go (before q e f) = (q, f, (let same = some-once e (s .1) in omega (arith, s .2)))
-      go (here e h f) = absurd (not-both e (s .1))
-      go (nowhere e h f) = absurd (not-both e (s .1))
+    still-seen : (p : ℕ) → Seen a p → Seen b p
+    still-seen p s = go line
+      where
+        go : Recorded a sheet t (b .line) → Seen b p
+        go (before q e f) = (q, f, (let same = some-once e (s .1) in omega (arith, s .2)))
+        go (here e h f) = absurd (not-both e (s .1))
+        go (nowhere e h f) = absurd (not-both e (s .1))
 
-  -- a break at the token is seen
-  now-seen : Breaks a sheet t → Seen b (t .at)
-  now-seen h = go line
-    where
-      go : Recorded a sheet t (b .line) → Seen b (t .at)
-      go (before q e f) = (q, f, omega (arith, early q e, g .place))
-      go (here e k f) = (t .at, f, omega arith)
-      go (nowhere e k f) = absurd (k h)
+    -- a break at the token is seen
+    now-seen : Breaks a sheet t → Seen b (t .at)
+    now-seen h = go line
+      where
+        go : Recorded a sheet t (b .line) → Seen b (t .at)
+        go (before q e f) = (q, f, omega (arith, early q e, g .place))
+        go (here e k f) = (t .at, f, omega arith)
+        go (nowhere e k f) = absurd (k h)
 
-  over : (tokens : List Tok) → nth tokens (a .count + 0) ≡ tok → (4096 < a .count → nth tokens 4096 .1 ≡ a .over) → 4096 < b .count → nth tokens 4096 .1 ≡ b .over
-  over tokens first old h =
-      ⊎-elim
-      (λ e. let i : 4096 ≡ a .count + 0 = omega arith in ap (λ k. nth tokens k .1) i ∙ (ap (λ x. x .1) first ∙ (sym (g .place) ∙ sym (over-now e))))
-      (λ e. old (omega arith) ∙ sym (over-other e))
-      (cases-eq (a .count) 4096)
+    over : (tokens : List Tok) → nth tokens (a .count + 0) ≡ tok → (4096 < a .count → nth tokens 4096 .1 ≡ a .over) → 4096 < b .count → nth tokens 4096 .1 ≡ b .over
+    over tokens first old h =
+        ⊎-elim
+        (λ e. let i : 4096 ≡ a .count + 0 = omega arith in ap (λ k. nth tokens k .1) i ∙ (ap (λ x. x .1) first ∙ (sym (g .place) ∙ sym (over-now e))))
+        (λ e. old (omega arith) ∙ sym (over-other e))
+        (cases-eq (a .count) 4096)
 
-  whole : {o : Option Tok} → Knows sheet a o → (us : List Tok) (fin : Ending) → Whole sheet a o (tok ∷ us) fin → Whole sheet b (Some tok) us fin
-  whole {o} k us fin w = record {
-    tokens = w .tokens;
-    lexes = w .lexes;
-    long = omega (arith, w .long);
-    same = λ j. let i : b .count + j ≡ a .count + suc j = omega arith in ap (nth (w .tokens)) i ∙ w .same (suc j);
-    over = over (w .tokens) (w .same 0) (w .over);
-    lines = λ p x. ⊎-elim (λ s. inl (still-seen p s)) (lines k p) (w .lines p x);
-    seen = λ p e. seen p e line;
-    left = λ p x. w .left p (left k p x);
-  }
-    where
-      left : {o : Option Tok} → Knows sheet a o → (p : ℕ) → Broken-line sheet (tok ∷ us) p → Broken-line sheet (joined o (tok ∷ us)) p
-      left (knows-none z) p x = x
-      left (knows-last n d r) p x = further x
-      lines : {o : Option Tok} → Knows sheet a o → (p : ℕ) → Broken-line sheet (joined o (tok ∷ us)) p → Seen b p ⊎ Broken-line sheet (tok ∷ us) p
-      lines (knows-none z) p x = inr x
-      lines (knows-last n d r) p (broken-line _ _ next-here o f e) =
-          let there : p ≡ t .at = e ∙ sym (g .place) in
-          let feed = subst (λ i. Feed-between sheet i (t .at)) (sym d) (subst (Feed-between sheet _) (sym (g .place)) f) in
-          inl (subst (Seen b) (sym there) (now-seen (n, (⊎-elim (λ x. inl (r .1 x)) (λ x. inr (sym worded ∙ x)) o, feed))))
-      lines (knows-last n d r) p (broken-line s u (next-later m) o f e) = inr (broken-line s u m o f e)
-      at-token : {o : Option Tok} → Knows sheet a o → Breaks a sheet t → Broken-line sheet (joined o (tok ∷ us)) (t .at)
-      at-token (knows-none z) h = absurd (omega (arith, h .0))
-      at-token (knows-last {t = s} n d r) h =
-          let feed = subst (λ i. Feed-between sheet i (at + g .gap)) d (subst (Feed-between sheet _) (g .place) (h .1 .1)) in
-          broken-line s tok next-here (⊎-elim (λ x. inl (r .0 x)) (λ x. inr (worded ∙ x)) (h .1 .0)) feed (g .place)
-      seen : (p : ℕ) → b .line ≡ Some p → Recorded a sheet t (b .line) → Broken-line sheet (w .tokens) p
-      seen p e (before q x f) = w .seen p (x ∙ ap Some (some-once f e))
-      seen p e (here x h f) = subst (Broken-line sheet (w .tokens)) (some-once f e) (w .left (t .at) (at-token k h))
-      seen p e (nowhere x h f) = absurd (not-both f e)
+    whole : {o : Option Tok} → Knows sheet a o → (us : List Tok) (fin : Ending) → Whole sheet a o (tok ∷ us) fin → Whole sheet b (Some tok) us fin
+    whole {o} k us fin w = record {
+      tokens = w .tokens;
+      lexes = w .lexes;
+      long = omega (arith, w .long);
+      same = λ j. let i : b .count + j ≡ a .count + suc j = omega arith in ap (nth (w .tokens)) i ∙ w .same (suc j);
+      over = over (w .tokens) (w .same 0) (w .over);
+      lines = λ p x. ⊎-elim (λ s. inl (still-seen p s)) (lines k p) (w .lines p x);
+      seen = λ p e. seen p e line;
+      left = λ p x. w .left p (left k p x);
+    }
+      where
+        left : {o : Option Tok} → Knows sheet a o → (p : ℕ) → Broken-line sheet (tok ∷ us) p → Broken-line sheet (joined o (tok ∷ us)) p
+        left (knows-none z) p x = x
+        left (knows-last n d r) p x = further x
 
-  pub tallied : (o : Option Tok) → a .count ≤ at → Knows sheet a o → ((us : List Tok) (fin : Ending) → Lexes sheet at us fin → Whole sheet a o us fin) → Tallied sheet next b
-  tallied o few k rest = record {
-    inside = on .1;
-    few = omega (arith, on .0);
-    last = Some tok;
-    knows = knows-last (omega arith) (end ∙ ap (λ i. i + length (t .text .now)) (g .place)) (λ e. worded ∙ returns .0 e, λ e. returns .1 (sym worded ∙ e));
-    early = λ p e. soon p e line;
-    rest = λ us fin l. whole k us fin (rest (tok ∷ us) fin (token (g .gap) (length (t .text .now)) (g .past) (g .token) (subst (Small (t .kind)) (g .text) (g .small)) (subst (λ i. Lexes sheet i us fin) (g .on) l)));
-  }
-    where
-      soon : (p : ℕ) → b .line ≡ Some p → Recorded a sheet t (b .line) → p < next
-      soon p e (before q x f) = let same = some-once f e in omega (arith, early q x, on .0)
-      soon p e (here x h f) = let same = some-once f e in omega (arith, g .place, g .on, token-some _ _ _ (g .token))
-      soon p e (nowhere x h f) = absurd (not-both f e)
+        lines : {o : Option Tok} → Knows sheet a o → (p : ℕ) → Broken-line sheet (joined o (tok ∷ us)) p → Seen b p ⊎ Broken-line sheet (tok ∷ us) p
+        lines (knows-none z) p x = inr x
+        lines (knows-last n d r) p (broken-line _ _ next-here o f e) =
+            let there : p ≡ t .at = e ∙ sym (g .place) in
+            let feed = subst (λ i. Feed-between sheet i (t .at)) (sym d) (subst (Feed-between sheet _) (sym (g .place)) f) in
+            inl (subst (Seen b) (sym there) (now-seen (n, (⊎-elim (λ x. inl (r .1 x)) (λ x. inr (sym worded ∙ x)) o, feed))))
+        lines (knows-last n d r) p (broken-line s u (next-later m) o f e) = inr (broken-line s u m o f e)
+
+        at-token : {o : Option Tok} → Knows sheet a o → Breaks a sheet t → Broken-line sheet (joined o (tok ∷ us)) (t .at)
+        at-token (knows-none z) h = absurd (omega (arith, h .0))
+        at-token (knows-last {t = s} n d r) h =
+            let feed = subst (λ i. Feed-between sheet i (at + g .gap)) d (subst (Feed-between sheet _) (g .place) (h .1 .1)) in
+            broken-line s tok next-here (⊎-elim (λ x. inl (r .0 x)) (λ x. inr (worded ∙ x)) (h .1 .0)) feed (g .place)
+
+        seen : (p : ℕ) → b .line ≡ Some p → Recorded a sheet t (b .line) → Broken-line sheet (w .tokens) p
+        seen p e (before q x f) = w .seen p (x ∙ ap Some (some-once f e))
+        seen p e (here x h f) = subst (Broken-line sheet (w .tokens)) (some-once f e) (w .left (t .at) (at-token k h))
+        seen p e (nowhere x h f) = absurd (not-both f e)
+
+    pub tallied : (o : Option Tok) → a .count ≤ at → Knows sheet a o → ((us : List Tok) (fin : Ending) → Lexes sheet at us fin → Whole sheet a o us fin) → Tallied sheet next b
+    tallied o few k rest = record {
+      inside = on .1;
+      few = omega (arith, on .0);
+      last = Some tok;
+      knows = knows-last (omega arith) (end ∙ ap (λ i. i + length (t .text .now)) (g .place)) (λ e. worded ∙ returns .0 e, λ e. returns .1 (sym worded ∙ e));
+      early = λ p e. soon p e line;
+      rest = λ us fin l. whole k us fin (rest (tok ∷ us) fin (token (g .gap) (length (t .text .now)) (g .past) (g .token) (subst (Small (t .kind)) (g .text) (g .small)) (subst (λ i. Lexes sheet i us fin) (g .on) l)));
+    }
+      where
+        soon : (p : ℕ) → b .line ≡ Some p → Recorded a sheet t (b .line) → p < next
+        soon p e (before q x f) = let same = some-once f e in omega (arith, early q x, on .0)
+        soon p e (here x h f) = let same = some-once f e in omega (arith, g .place, g .on, token-some _ _ _ (g .token))
+        soon p e (nowhere x h f) = absurd (not-both f e)
 
 pub tallied-none : (sheet : List ℕ) (a : Tally) → a .count ≡ 0 → a .line ≡ None → Tallied sheet 0 a
 tallied-none sheet a z n = record {

@@ -29,6 +29,7 @@ module _ (sheet : List ℕ) where
       earlier _ _ (not-lexed l) = omega (arith, stopped-turn l)
       earlier _ _ (line-broken l b) = lit≤ tt
       earlier _ _ (too-many l m) = lit≤ tt
+
       lower : (r : Reason) (p : ℕ) → Token-fault sheet r p → turn r ≡ 2 → (r ≡ NoProgram) ⊎ (16384 ≤ p)
       lower _ _ (too-long h) e = inr (lit≤ tt)
       lower _ _ (not-lexed l) e = absurd (omega (arith, stopped-turn l))
@@ -44,6 +45,7 @@ module _ (sheet : List ℕ) (short : length sheet ≤ 16384) where
       earlier _ _ (not-lexed m) = omega (arith, stopped-turn l, stopped-turn m)
       earlier _ _ (line-broken m b) = omega (arith, stopped-turn l)
       earlier _ _ (too-many m n) = omega (arith, stopped-turn l)
+
       lower : (r : Reason) (p : ℕ) → Token-fault sheet r p → turn r ≡ turn (e .reason) → (r ≡ NoProgram) ⊎ (e .place ≤ p)
       lower _ _ (too-long h) x = absurd (omega arith)
       lower _ p (not-lexed m) x = let same = lexes-once sheet 0 _ _ _ _ l m .1 in let here : e .place ≡ p = cc in inr (omega arith)
@@ -65,6 +67,7 @@ module _ (sheet : List ℕ) (short : length sheet ≤ 16384) where
         earlier _ _ (not-lexed m) = absurd (not-stopped m)
         earlier _ _ (line-broken m c) = lit≤ tt
         earlier _ _ (too-many m n) = lit≤ tt
+
         lower : (r : Reason) (q : ℕ) → Token-fault sheet r q → turn r ≡ 5 → (r ≡ NoProgram) ⊎ (p ≤ q)
         lower _ _ (too-long h) x = absurd (omega arith)
         lower _ _ (not-lexed m) x = absurd (not-stopped m)
@@ -80,6 +83,7 @@ module _ (sheet : List ℕ) (short : length sheet ≤ 16384) where
           earlier _ _ (not-lexed m) = absurd (not-stopped m)
           earlier _ _ (line-broken m c) = absurd (unbroken _ (moved m c))
           earlier _ _ (too-many m n) = lit≤ tt
+
           lower : (r : Reason) (q : ℕ) → Token-fault sheet r q → turn r ≡ 6 → (r ≡ NoProgram) ⊎ (p ≤ q)
           lower _ _ (too-long h) x = absurd (omega arith)
           lower _ _ (not-lexed m) x = absurd (not-stopped m)

@@ -2,11 +2,11 @@
 ghost use mathlib.Core.Path.{_≡_};
 ghost use Prim.Native.Nat.{_<_};
 ghost use Rattle.lexer.specs.Reading.{One-reading, Reads};
-use crate::reasons::Reason;
-use crate::refusal::Refusal;
 use crate::gaps::gap_len;
 use crate::read::Reader;
 use crate::read::Token;
+use crate::reasons::Reason;
+use crate::refusal::Refusal;
 use crate::runs::after;
 use crate::sizes::is_small;
 use crate::tokens::token;
@@ -17,9 +17,10 @@ impl<'a> Reader<'a> {
         ensures sheet { λ _. ⌜ now (now (self .exit) .sheet) ≡ now (now (self .entry) .sheet) ⌝ }
         ensures reads { λ r. ⌜ Reads (now (now (self .entry) .sheet)) (now (self .entry) .at) r (now (self .exit) .at) ⌝ }
     {
-        let gap = gap_len(after(self.sheet, self.at));
+        let left = after(self.sheet, self.at);
+        let gap = gap_len(left);
         let at = self.at + gap;
-        let rest = after(self.sheet, at);
+        let rest = &left[gap..];
         if rest.is_empty() {
             return Ok(None);
         }

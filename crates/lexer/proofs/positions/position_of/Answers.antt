@@ -11,12 +11,12 @@ pub loop-i-again : need.loop-i-again
 loop-i-again c =
     let within : c .loop-i .i < length (c .args .sheet .now) = omega (arith, c .min-i-end .ensures) in
     elim (c .if-sheet-i-eq10 .came) [
-      then-sheet-i-eq10 w ↦
-        let e = w .if-sheet-i-eq10 .taken in
-        (omega (arith, w .line-is, feed-line _ _ within e), omega (arith, w .column-is, feed-column _ _ within e), omega (arith, w .line-is), omega (arith, w .column-is))
-    | else-sheet-i-eq10 w ↦
-        let e = w .if-sheet-i-eq10 .left in
-        (omega (arith, w .line-is, other-line _ _ within e), omega (arith, w .column-is, other-column _ _ within e), omega (arith, w .line-is), omega (arith, w .column-is))
+      | then-sheet-i-eq10 w ↦
+          let e = w .if-sheet-i-eq10 .taken in
+          (omega (arith, w .line-is, feed-line _ _ within e), omega (arith, w .column-is, feed-column _ _ within e), omega (arith, w .line-is), omega (arith, w .column-is))
+      | else-sheet-i-eq10 w ↦
+          let e = w .if-sheet-i-eq10 .left in
+          (omega (arith, w .line-is, other-line _ _ within e), omega (arith, w .column-is, other-column _ _ within e), omega (arith, w .line-is), omega (arith, w .column-is))
     ]
 
 pub returns : need.returns

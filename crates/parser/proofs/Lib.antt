@@ -1,0 +1,10 @@
+pub mod Corner
+pub mod Sizes
+pub mod Turns
+pub mod Tables
+pub mod Reductions
+pub mod Arms
+pub mod Whole
+pub mod Marks
+pub mod Lexing
+pub mod Faults

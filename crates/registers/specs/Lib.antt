@@ -1,0 +1,5 @@
+pub mod Meaning
+pub mod Telling
+pub mod Library
+pub mod Soundness
+pub mod Standings
