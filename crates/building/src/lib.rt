@@ -1,4 +1,6 @@
 // Types made in the type table: literals, pairs, lists, functions, unions, parts and copies; equality and weights.
+#![tactic(auto)]
+
 ghost use Rattle.building.specs.Laws.{OnePart, OneUnion, PartTold, UnionExists, UnionOfValues};
 ghost use Rattle.building.specs.Literals.{LiteralLaws};
 

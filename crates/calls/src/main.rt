@@ -1,4 +1,6 @@
 // Answers the calls on standard input, one a line.
+#![tactic(auto)]
+
 mod answering;
 mod line;
 mod spelling;

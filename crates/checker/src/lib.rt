@@ -1,4 +1,6 @@
 // The rules, and checking a sheet that was read.
+#![tactic(auto)]
+
 pub mod asked;
 mod asking;
 pub mod calls;

@@ -1,4 +1,6 @@
 // The calls of a host that is written in C: numbers and byte slices alone, over tables on the stack.
+#![tactic(auto)]
+
 ghost use Rattle.std.specs.Prelude.{◌≡◌, ◌-◌, ◌/◌, ◌≤◌, min, ◌++◌, length, take};
 ghost use Rattle.lexer.specs.Refusals.{number_of};
 ghost use Rattle.host.specs.Layout.{word, rows, replaced};

@@ -1,4 +1,6 @@
 // Reads a sheet: from bytes to tokens, numbers as exact decimals, and strings as code units.
+#![tactic(auto)]
+
 mod classes;
 pub mod decimal;
 pub mod decimals;

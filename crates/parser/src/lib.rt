@@ -1,4 +1,6 @@
 // Reads a sheet into a table of tree entries.
+#![tactic(auto)]
+
 ghost use Rattle.std.specs.Prelude.{length, Decides};
 ghost use Rattle.parser.specs.Reading.{Short, Reads};
 

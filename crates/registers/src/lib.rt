@@ -1,4 +1,6 @@
 // Registers: what names are bound to.
+#![tactic(auto)]
+
 pub mod empty;
 pub mod found;
 pub mod library;

@@ -1,4 +1,6 @@
 // Checks the sheets that are named as arguments, `-` for standard input, and prints what is found.
+#![tactic(auto)]
+
 mod tables;
 mod telling;
 

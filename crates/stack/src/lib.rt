@@ -1,4 +1,6 @@
 // A stack over a lent slice, for every kind of entry. No call asks anything of its caller.
+#![tactic(auto)]
+
 ghost use Rattle.std.specs.Prelude.{◌≡◌, ◌<◌, List, [], ◌∷◌, ◌++◌, length, MatchOption};
 ghost use Rattle.stack.specs.Items.{held, room};
 

@@ -1,4 +1,6 @@
 // The type table: which types its entries hold, and whether two of them have a common value.
+#![tactic(auto)]
+
 ghost use Rattle.types.specs.Examples.{ExamplesHold};
 ghost use Rattle.types.specs.Table.{LowerOnly, OneType};
 

@@ -1,4 +1,6 @@
 // A sheet is read, checked, and asked for the type of its first expression.
+#![tactic(auto)]
+
 use checker::asked::type_of;
 use checker::check::check;
 use checker::finding::Finding;

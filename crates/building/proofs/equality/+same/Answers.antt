@@ -64,45 +64,45 @@ returns-in-NumberLiteral-b t c =
     let g : SFits w16 c.in-NumberLiteral-b.e = search rules in
     numbers_same c.in-NumberLiteral.is c.in-NumberLiteral-b.is (simp to_z-of_z at c.same-number.ensures)
 
-pub returns-in-default-b : goal.returns-in-default-b
-returns-in-default-b t c = not_number c.in-NumberLiteral.is c.in-default-b.not-NumberLiteral
+pub returns-in_default-b : goal.returns-in_default-b
+returns-in_default-b t c = not_number c.in-NumberLiteral.is c.in_default-b.not-NumberLiteral
 
 pub returns-else-count-c : goal.returns-else-count-c
 returns-else-count-c t c =
     let e = c.if-count-c.false in
     strings_same c.in-StringLiteral.is (rw (← e) at c.in-StringLiteral-b.is) c.same-units.ensures
 
-pub returns-in-default-b-2 : goal.returns-in-default-b-2
-returns-in-default-b-2 t c = not_string c.in-StringLiteral.is c.in-default-b-2.not-StringLiteral
+pub returns-in_default-b-2 : goal.returns-in_default-b-2
+returns-in_default-b-2 t c = not_string c.in-StringLiteral.is c.in_default-b-2.not-StringLiteral
 
 pub returns-after-loop-k : goal.returns-after-loop-k
 returns-after-loop-k t c =
     let e = c.if-count-c-2.false in
     results_same c.in-Function.is (rw (← e) at c.in-Function-b.is) (λ k lt. c.loop-k.invariant k (omega arith)) c.same-in-Function-b.ensures
 
-pub returns-in-default-b-3 : goal.returns-in-default-b-3
-returns-in-default-b-3 t c = not_function c.in-Function.is c.in-default-b-3.not-Function
+pub returns-in_default-b-3 : goal.returns-in_default-b-3
+returns-in_default-b-3 t c = not_function c.in-Function.is c.in_default-b-3.not-Function
 
 pub returns-else-not-same-2 : goal.returns-else-not-same-2
 returns-else-not-same-2 t c = tails_same c.in-Pair.is c.in-Pair-b.is c.if-not-same-2.ensures c.same-in-Pair-b-2.ensures
 
-pub returns-in-default-b-4 : goal.returns-in-default-b-4
-returns-in-default-b-4 t c = not_pair c.in-Pair.is c.in-default-b-4.not-Pair
+pub returns-in_default-b-4 : goal.returns-in_default-b-4
+returns-in_default-b-4 t c = not_pair c.in-Pair.is c.in_default-b-4.not-Pair
 
 pub returns-else-x-m : goal.returns-else-x-m
 returns-else-x-m t c = lists_same c.in-List.is c.in-List-b.is c.same-in-List-b.ensures
 
-pub returns-in-default-b-5 : goal.returns-in-default-b-5
-returns-in-default-b-5 t c = not_list c.in-List.is c.in-default-b-5.not-List
+pub returns-in_default-b-5 : goal.returns-in_default-b-5
+returns-in_default-b-5 t c = not_list c.in-List.is c.in_default-b-5.not-List
 
 pub returns-after-loop-k-2 : goal.returns-after-loop-k-2
 returns-after-loop-k-2 t c =
     let e = c.if-count-c-3.false in
     members_same c.in-Union.is (rw (← e) at c.in-Union-b.is) (λ k lt. c.loop-k-2.invariant k (omega arith))
 
-pub returns-in-default-b-6 : goal.returns-in-default-b-6
-returns-in-default-b-6 t c = not_union c.in-Union.is c.in-default-b-6.not-Union
+pub returns-in_default-b-6 : goal.returns-in_default-b-6
+returns-in_default-b-6 t c = not_union c.in-Union.is c.in_default-b-6.not-Union
 
-pub returns-in-default : goal.returns-in-default
-returns-in-default t c =
-    plains_same c.in-default.not-NumberLiteral c.in-default.not-StringLiteral c.in-default.not-Function c.in-default.not-Pair c.in-default.not-List c.in-default.not-Union (told _ _ c.plain-number.ensures c.plain-number-in-default.ensures)
+pub returns-in_default : goal.returns-in_default
+returns-in_default t c =
+    plains_same c.in_default.not-NumberLiteral c.in_default.not-StringLiteral c.in_default.not-Function c.in_default.not-Pair c.in_default.not-List c.in_default.not-Union (told _ _ c.plain-number.ensures c.plain-number-in_default.ensures)

@@ -3,8 +3,8 @@ use Rattle.std.proofs.lemmas.Int.{to_z-of_z}
 use Rattle.building.proofs.LiteralsMade.{number_given, no_number}
 use Rattle.building.proofs.literals.number_of.Goals as goal
 
-pub returns-in-default : goal.returns-in-default
-returns-in-default c = no_number _ c.in-default.ensures
+pub returns-in_default : goal.returns-in_default
+returns-in_default c = no_number _ c.in_default.ensures
 
 pub exponent-of-requires : goal.exponent-of-requires
 exponent-of-requires c = c.in-Some.ensures.canonical.range

@@ -26,6 +26,6 @@ loop-unit-preserved c = (
 
 pub returns : goal.returns
 returns c = record {
-  made = string_filled _ _ _ _ c.loop-unit.decoder.text.now c.loop-unit.invariant.0 c.loop-unit.decoder.at _ c.loop-unit.invariant.1 _ c.in-default.ensures.unit;
+  made = string_filled _ _ _ _ c.loop-unit.decoder.text.now c.loop-unit.invariant.0 c.loop-unit.decoder.at _ c.loop-unit.invariant.1 _ c.in_default.ensures.unit;
   kept = c.loop-unit.invariant.1.same;
 }

@@ -5,9 +5,9 @@ use Rattle.building.proofs.Same.{union_low}
 use Rattle.building.proofs.AllMembers.{none_added, more_added, none_fits, all_added, not_all_added, one_added}
 use Rattle.building.proofs.members.add_type.Goals as goal
 
-pub returns-in-default : goal.returns-in-default
-returns-in-default c = record {
-  adds = one_added _ _ _ _ c.add-member.result c.in-default.not-Union c.add-member.ensures.adds;
+pub returns-in_default : goal.returns-in_default
+returns-in_default c = record {
+  adds = one_added _ _ _ _ c.add-member.result c.in_default.not-Union c.add-member.ensures.adds;
   kept = c.add-member.ensures.kept;
   within = c.add-member.ensures.within;
 }
@@ -22,10 +22,10 @@ returns-then-not-run-below c = record {
 pub loop-k-init : goal.loop-k-init
 loop-k-init c = none_added _ _ _ _ _ c.requires
 
-pub returns-in-default-add-member : goal.returns-in-default-add-member
-returns-in-default-add-member c = record {
-  adds = not_all_added _ _ _ _ _ c.in-Union.is (none_fits _ _ _ _ _ _ _ _ c.loop-k-test.true (c.if-not-run-below.ensures.0 refl) c.loop-k.invariant c.in-default-add-member.ensures.adds);
-  kept = λ j lt. c.in-default-add-member.ensures.kept j lt ∙ c.loop-k.invariant.1 j lt;
+pub returns-in_default-add-member : goal.returns-in_default-add-member
+returns-in_default-add-member c = record {
+  adds = not_all_added _ _ _ _ _ c.in-Union.is (none_fits _ _ _ _ _ _ _ _ c.loop-k-test.true (c.if-not-run-below.ensures.0 refl) c.loop-k.invariant c.in_default-add-member.ensures.adds);
+  kept = λ j lt. c.in_default-add-member.ensures.kept j lt ∙ c.loop-k.invariant.1 j lt;
   within = tt;
 }
 

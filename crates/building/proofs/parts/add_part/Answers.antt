@@ -2,9 +2,9 @@ use Rattle.std.proofs.Common.{refl, arith}
 use Rattle.building.proofs.PartsMade.{part_added, no_part_added}
 use Rattle.building.proofs.parts.add_part.Goals as goal
 
-pub returns-in-default : goal.returns-in-default
-returns-in-default c = record {
-  adds = no_part_added _ _ _ _ _ (λ t h. c.in-default.ensures (omega (arith, c.requires)) t h);
+pub returns-in_default : goal.returns-in_default
+returns-in_default c = record {
+  adds = no_part_added _ _ _ _ _ (λ t h. c.in_default.ensures (omega (arith, c.requires)) t h);
   kept = λ j lt. refl;
   within = c.requires;
 }

@@ -6,10 +6,10 @@ use Rattle.building.proofs.parts.add_parts.Goals as goal
 pub loop-k-init : goal.loop-k-init
 loop-k-init c = none_parted _ _ _ _ _ c.requires.1
 
-pub returns-in-default : goal.returns-in-default
-returns-in-default c = record {
-  adds = parts_none_fit _ _ _ _ _ _ _ _ c.loop-k-test.true c.requires.0 c.loop-k.invariant c.in-default.ensures.adds;
-  kept = λ j lt. c.in-default.ensures.kept j lt ∙ c.loop-k.invariant.1 j lt;
+pub returns-in_default : goal.returns-in_default
+returns-in_default c = record {
+  adds = parts_none_fit _ _ _ _ _ _ _ _ c.loop-k-test.true c.requires.0 c.loop-k.invariant c.in_default.ensures.adds;
+  kept = λ j lt. c.in_default.ensures.kept j lt ∙ c.loop-k.invariant.1 j lt;
   within = tt;
 }
 

@@ -13,7 +13,7 @@ returns-in-Some c = record {
 
 pub returns-in-None : goal.returns-in-None
 returns-in-None c = record {
-  made = own_lacking _ _ _ _ c.in-default.not-Union (λ t h. c.in-None.ensures c.if-used-types.false t h);
+  made = own_lacking _ _ _ _ c.in_default.not-Union (λ t h. c.in-None.ensures c.if-used-types.false t h);
   kept = λ j lt. refl;
 }
 
@@ -29,10 +29,10 @@ returns-then-has-any-part c = record {
   kept = λ j lt. refl;
 }
 
-pub returns-in-default-add-parts : goal.returns-in-default-add-parts
-returns-in-default-add-parts c = record {
-  made = no_room_made _ _ _ _ _ _ c.in-Union.is c.if-has-any-part.ensures c.in-default-add-parts.ensures.adds;
-  kept = c.in-default-add-parts.ensures.kept;
+pub returns-in_default-add-parts : goal.returns-in_default-add-parts
+returns-in_default-add-parts c = record {
+  made = no_room_made _ _ _ _ _ _ c.in-Union.is c.if-has-any-part.ensures c.in_default-add-parts.ensures.adds;
+  kept = c.in_default-add-parts.ensures.kept;
 }
 
 pub returns-then-count-eq0 : goal.returns-then-count-eq0

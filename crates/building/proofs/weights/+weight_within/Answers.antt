@@ -47,5 +47,5 @@ returns-else-element-n t c = list_weighs _ c.in-List.is c.weight-within-w-in-Lis
 pub returns-after-loop-k-2 : goal.returns-after-loop-k-2
 returns-after-loop-k-2 t c = union_weighs _ _ _ c.in-Union.is c.loop-k-2-test.false c.loop-k-2.invariant c.sum-within-in-Union.ensures
 
-pub returns-in-default : goal.returns-in-default
-returns-in-default t c = one_weighs _ c.in-default.not-StringLiteral c.in-default.not-Function c.in-default.not-Pair c.in-default.not-List c.in-default.not-Union c.sum-within-in-default.ensures
+pub returns-in_default : goal.returns-in_default
+returns-in_default t c = one_weighs _ c.in_default.not-StringLiteral c.in_default.not-Function c.in_default.not-Pair c.in_default.not-List c.in_default.not-Union c.sum-within-in_default.ensures

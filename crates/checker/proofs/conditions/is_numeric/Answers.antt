@@ -7,5 +7,5 @@ returns-in-Number c = number_numeric c.in-Number.is
 pub returns-in-NumberLiteral : goal.returns-in-NumberLiteral
 returns-in-NumberLiteral c = literal_numeric c.in-NumberLiteral.is
 
-pub returns-in-default : goal.returns-in-default
-returns-in-default c = not_numeric c.in-default.not-Number c.in-default.not-NumberLiteral
+pub returns-in_default : goal.returns-in_default
+returns-in_default c = not_numeric c.in_default.not-Number c.in_default.not-NumberLiteral

@@ -7,5 +7,5 @@ returns-in-String c = string_textual c.in-String.is
 pub returns-in-StringLiteral : goal.returns-in-StringLiteral
 returns-in-StringLiteral c = literal_textual c.in-StringLiteral.is
 
-pub returns-in-default : goal.returns-in-default
-returns-in-default c = not_textual c.in-default.not-String c.in-default.not-StringLiteral
+pub returns-in_default : goal.returns-in_default
+returns-in_default c = not_textual c.in_default.not-String c.in_default.not-StringLiteral

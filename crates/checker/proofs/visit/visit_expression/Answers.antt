@@ -24,9 +24,9 @@ returns-in-Choice g c = record {
   onward = λ whole left sound h. goes_on (pushed_goes _ _ _ _ _ h c.wait-four.ensures (choice_visit h.notes (visiting h.notes _ (sym c.in-Choice.ensures) h.goes)));
 }
 
-pub returns-in-default : goal.returns-in-default
-returns-in-default g c = record {
+pub returns-in_default : goal.returns-in_default
+returns-in_default g c = record {
   lent = (refl, refl);
   onward = λ whole left sound h.
-      absurd (no_visit h.notes (visiting h.notes _ (sym c.tree-at.ensures) h.goes) c.in-default.not-Leaf c.in-default.not-Unary c.in-default.not-Binary c.in-default.not-Choice);
+      absurd (no_visit h.notes (visiting h.notes _ (sym c.tree-at.ensures) h.goes) c.in_default.not-Leaf c.in_default.not-Unary c.in_default.not-Binary c.in_default.not-Choice);
 }

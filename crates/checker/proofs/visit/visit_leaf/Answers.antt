@@ -8,8 +8,8 @@ returns-in-Name g c = record {
   visits = λ table i q. c.visit-name.ensures.visits table i (q ∙ ap (λ l. Leaf l c.args.place c.args.len) c.in-Name.is);
 }
 
-pub returns-in-default : goal.returns-in-default
-returns-in-default g c = record {
+pub returns-in_default : goal.returns-in_default
+returns-in_default g c = record {
   lent = (refl, c.visit-literal.ensures.lent);
-  visits = λ table i q. c.visit-literal.ensures.visits (g.R.Register.meaning c.args.names.now) c.args.findings.now c.in-default.not-Name table i q;
+  visits = λ table i q. c.visit-literal.ensures.visits (g.R.Register.meaning c.args.names.now) c.args.findings.now c.in_default.not-Name table i q;
 }

@@ -10,6 +10,6 @@ pub returns-in-Statement : goal.returns-in-Statement
 returns-in-Statement c sheet Γ f s whole left sound h =
     goes_on (pushed_goes _ _ _ _ _ h c.wait-two.ensures (statement_visit h.notes _ _ _ _ (omega (arith, c.if-i-eq0.false)) (sym c.in-Statement.ensures) h.goes))
 
-pub returns-in-default : goal.returns-in-default
-returns-in-default c sheet Γ f s whole left sound h =
-    absurd (no_statement h.notes _ _ (omega (arith, c.if-i-eq0.false)) (λ b j q. c.in-default.not-Statement b j (c.tree-at.ensures ∙ q)) h.goes)
+pub returns-in_default : goal.returns-in_default
+returns-in_default c sheet Γ f s whole left sound h =
+    absurd (no_statement h.notes _ _ (omega (arith, c.if-i-eq0.false)) (λ b j q. c.in_default.not-Statement b j (c.tree-at.ensures ∙ q)) h.goes)

@@ -7,5 +7,5 @@ pub returns-in-Start : goal.returns-in-Start
 returns-in-Start c =
     λ sheet table fs ls end l few low h. accepted l h _ (ap (λ r. r.used) c.new.ensures) (ap (λ r. r.last) c.new.ensures) few low c.in-Start.is
 
-pub returns-in-default : goal.returns-in-default
-returns-in-default c = λ sheet table fs ls end l few low h. (refl, subst (NotProgram sheet) (sym end) (refused_at_end l h c.in-default.not-Start))
+pub returns-in_default : goal.returns-in_default
+returns-in_default c = λ sheet table fs ls end l few low h. (refl, subst (NotProgram sheet) (sym end) (refused_at_end l h c.in_default.not-Start))

@@ -4,16 +4,16 @@ use Rattle.parser.proofs.steps.close.Goals as goal
 
 pub returns-in-Semicolon : goal.returns-in-Semicolon
 returns-in-Semicolon c =
-    let none = c.in-default.ensures.holds in
+    let none = c.in_default.ensures.holds in
     record {
       turns = λ sheet b ps k e h. step_end _ c.in-Semicolon.is none.0 none.1 (omega arith) h;
       uses = omega (arith, ap length none.0, ap length none.1);
       space = c.pop.ensures.space;
     }
 
-pub returns-in-default-symbol : goal.returns-in-default-symbol
-returns-in-default-symbol c = record {
-  turns = λ sheet b ps k e h. unmet _ c.requires.ends (not_end _ c.in-default-symbol.not-Semicolon c.in-default.ensures.holds.0) h;
+pub returns-in_default-symbol : goal.returns-in_default-symbol
+returns-in_default-symbol c = record {
+  turns = λ sheet b ps k e h. unmet _ c.requires.ends (not_end _ c.in_default-symbol.not-Semicolon c.in_default.ensures.holds.0) h;
   uses = tt;
   space = c.pop.ensures.space;
 }
@@ -23,9 +23,9 @@ returns-in-Close c =
     let took = c.in-Some.ensures.holds in
     record { turns = λ sheet b ps k e h. step_close _ c.in-Close.is c.in-Bracket.is took h; uses = omega (arith, ap length took); space = c.pop.ensures.space }
 
-pub returns-in-default-symbol-2 : goal.returns-in-default-symbol-2
-returns-in-default-symbol-2 c = record {
-  turns = λ sheet b ps k e h. unmet _ c.requires.ends (not_shut _ c.in-default-symbol-2.not-Close c.in-Bracket.is c.in-Some.ensures.holds) h;
+pub returns-in_default-symbol-2 : goal.returns-in_default-symbol-2
+returns-in_default-symbol-2 c = record {
+  turns = λ sheet b ps k e h. unmet _ c.requires.ends (not_shut _ c.in_default-symbol-2.not-Close c.in-Bracket.is c.in-Some.ensures.holds) h;
   uses = tt;
   space = c.pop.ensures.space;
 }
@@ -42,9 +42,9 @@ returns-in-Consequent c =
       space = c.chosen.ensures.space ∙ c.pop.ensures.space;
     }
 
-pub returns-in-default-top : goal.returns-in-default-top
-returns-in-default-top c = record {
-  turns = λ sheet b ps k e h. not_right _ _ _ c.in-Some.ensures.holds c.in-default-top.not-Bracket c.in-default-top.not-Consequent c.requires.lower h.before.frames;
+pub returns-in_default-top : goal.returns-in_default-top
+returns-in_default-top c = record {
+  turns = λ sheet b ps k e h. not_right _ _ _ c.in-Some.ensures.holds c.in_default-top.not-Bracket c.in_default-top.not-Consequent c.requires.lower h.before.frames;
   uses = tt;
   space = c.pop.ensures.space;
 }

@@ -15,14 +15,14 @@ pub returns-in-Some : goal.returns-in-Some
 returns-in-Some c =
     let held = c.push-in-Some.ensures.holds c.requires.room in
     record {
-      turns = λ sheet b ps w h. step_prefix _ _ c.in-Some.ensures (no_leaf _ c.in-default.not-Leaf) w held h;
+      turns = λ sheet b ps w h. step_prefix _ _ c.in-Some.ensures (no_leaf _ c.in_default.not-Leaf) w held h;
       uses = omega (arith, ap length held);
       space = c.push-in-Some.ensures.space;
     }
 
 pub returns-in-None : goal.returns-in-None
 returns-in-None c = record {
-  turns = λ sheet b ps w h. no_operand b ps _ (no_leaf _ c.in-default.not-Leaf) c.in-default.not-Open (sym c.in-None.ensures);
+  turns = λ sheet b ps w h. no_operand b ps _ (no_leaf _ c.in_default.not-Leaf) c.in_default.not-Open (sym c.in-None.ensures);
   uses = tt;
   space = refl;
 }

@@ -7,8 +7,8 @@ returns-then-n-eq0 g c =
     let s = c.args.self.now in
     items_all s.slots.now s.len c.depth-n.result c.depth-n.ensures ∙ items_none _ _ c.if-n-eq0.true
 
-pub offset-bounds-slots-n : goal.offset-bounds-slots-n
-offset-bounds-slots-n g c =
+pub offset_bounds-slots-n : goal.offset_bounds-slots-n
+offset_bounds-slots-n g c =
     let s = c.args.self.now in
     let low : c.depth-n.result - 1 < length s.slots.now = omega (arith, c.depth-n.ensures, items_length s.slots.now s.len) in
     search rules

@@ -31,11 +31,11 @@ loop-k-2-preserved t c = members_more (λ k. SaysMeet c.args.types.now c.args.n 
 pub returns-in-Union-b : goal.returns-in-Union-b
 returns-in-Union-b t c = flip (union_none c.in-Union-b.is (λ m le lt. flip (c.loop-k-2.invariant m le (omega arith))))
 
-pub returns-in-default-kind-of : goal.returns-in-default-kind-of
-returns-in-default-kind-of t c = any_meets (sym c.in-default-kind-of.ensures) c.in-default.not-Union
+pub returns-in_default-kind-of : goal.returns-in_default-kind-of
+returns-in_default-kind-of t c = any_meets (sym c.in_default-kind-of.ensures) c.in_default.not-Union
 
-pub returns-in-default-kind-of-2 : goal.returns-in-default-kind-of-2
-returns-in-default-kind-of-2 t c = flip (any_meets (sym c.in-default-kind-of-2.ensures) c.in-default-b.not-Union)
+pub returns-in_default-kind-of-2 : goal.returns-in_default-kind-of-2
+returns-in_default-kind-of-2 t c = flip (any_meets (sym c.in_default-kind-of-2.ensures) c.in_default-b.not-Union)
 
 pub returns-in-Meet : goal.returns-in-Meet
 returns-in-Meet t c = kinds_meet (sym c.in-Some.ensures) (sym c.in-Some-kind-of.ensures) c.in-Meet.ensures.means
@@ -73,10 +73,10 @@ returns-else-not-meets-3 t c = flip (element_meets c.in-Pair-b-2.is c.in-List.is
 pub returns-in-Function-b : goal.returns-in-Function-b
 returns-in-Function-b t c = functions_meet c.in-Function.is c.in-Function-b.is (Decides-eqb c.in-Function.count c.in-Function-b.c)
 
-pub returns-in-default-a : goal.returns-in-default-a
-returns-in-default-a t c =
+pub returns-in_default-a : goal.returns-in_default-a
+returns-in_default-a t c =
     no-parts (sym c.in-Some.ensures) (sym c.in-Some-kind-of.ensures) c.in-ByParts.ensures.known
-    c.in-default-a.not-NumberLiteral c.in-default-a.not-StringLiteral c.in-default-a.not-Function c.in-default-a.not-Pair c.in-default-a.not-List
+    c.in_default-a.not-NumberLiteral c.in_default-a.not-StringLiteral c.in_default-a.not-Function c.in_default-a.not-Pair c.in_default-a.not-List
 
 pub returns-in-NumberLiteral-b : goal.returns-in-NumberLiteral-b
 returns-in-NumberLiteral-b t c =
@@ -84,9 +84,9 @@ returns-in-NumberLiteral-b t c =
     let g : SFits w16 c.in-NumberLiteral-b.e = search rules in
     numbers_meet c.in-NumberLiteral.is c.in-NumberLiteral-b.is (simp to_z-of_z at c.same-number.ensures)
 
-pub returns-in-default-b-2 : goal.returns-in-default-b-2
-returns-in-default-b-2 t c =
-    no_number (sym c.in-Some.ensures) (sym c.in-Some-kind-of.ensures) c.in-ByParts.ensures.known c.in-NumberLiteral.is c.in-default-b-2.not-NumberLiteral
+pub returns-in_default-b-2 : goal.returns-in_default-b-2
+returns-in_default-b-2 t c =
+    no_number (sym c.in-Some.ensures) (sym c.in-Some-kind-of.ensures) c.in-ByParts.ensures.known c.in-NumberLiteral.is c.in_default-b-2.not-NumberLiteral
 
 pub returns-then-count-c : goal.returns-then-count-c
 returns-then-count-c t c = lengths_apart c.in-StringLiteral.is c.in-StringLiteral-b.is c.if-count-c.true
