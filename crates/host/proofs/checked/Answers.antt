@@ -22,7 +22,7 @@ returns c =
     ∙ joined out 0 (word count) (word expressions) 4 refl (omega arith) in
     record {
       written =
-          c.put-findings.ensures
+          c.put_findings.ensures
           ∙ ap (λ k. replaced second 8 (rows (take k fs))) fit
           ∙ ap (λ o. replaced o 8 (rows (take n fs))) head
           ∙ joined out 0 (word count ++ word expressions) (rows (take n fs)) 8 refl (omega arith);

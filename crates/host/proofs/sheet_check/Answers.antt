@@ -8,8 +8,8 @@ returns-then-out-lt8 c = no_room_to_check c.if-out-lt8.true
 
 pub returns-in-Ok : goal.returns-in-Ok
 returns-in-Ok c =
-    tell_checked c.args.sheet.now c.args.out.now refl c.if-out-lt8.false c.checked.new.out c.checked.result c.in-Ok.c c.read-and-check.new.findings
-    c.read-and-check.auto.findings c.in-Ok.ensures c.checked.ensures.written c.checked.ensures.number
+    tell_checked c.args.sheet.now c.args.out.now refl c.if-out-lt8.false c.checked.new.out c.checked.result c.in-Ok.c c.read_and_check.new.findings
+    c.read_and_check.auto.findings c.in-Ok.ensures c.checked.ensures.written c.checked.ensures.number
 
 pub returns-in-Err : goal.returns-in-Err
 returns-in-Err c =

@@ -14,13 +14,13 @@ returns-then-count-c-2 t c = parameters_apart c.in-Function.is c.in-Function-b.i
 pub returns-then-n-eq0 : goal.returns-then-n-eq0
 returns-then-n-eq0 t c = free (λ le le' s u hs hu. let low = function_low c.in-Function.is hs in let low' = function_low c.in-Function-b.is hu in omega (arith, c.then-n-eq0.either))
 
-pub returns-then-not-run-below : goal.returns-then-not-run-below
-returns-then-not-run-below t c = free (λ le le' s u hs hu. let low = function_low c.in-Function.is hs in both_ways false refl (c.if-not-run-below.ensures.1 (omega arith)))
+pub returns-then-not-run_below : goal.returns-then-not-run_below
+returns-then-not-run_below t c = free (λ le le' s u hs hu. let low = function_low c.in-Function.is hs in both_ways false refl (c.if-not-run_below.ensures.1 (omega arith)))
 
-pub returns-then-not-run-below-2 : goal.returns-then-not-run-below-2
-returns-then-not-run-below-2 t c =
+pub returns-then-not-run_below-2 : goal.returns-then-not-run_below-2
+returns-then-not-run_below-2 t c =
     let e = c.if-count-c-2.false in
-    free (λ le le' s u hs hu. let low = function_low c.in-Function-b.is hu in both_ways false refl (c.if-not-run-below-2.ensures.1 (omega arith)))
+    free (λ le le' s u hs hu. let low = function_low c.in-Function-b.is hu in both_ways false refl (c.if-not-run_below-2.ensures.1 (omega arith)))
 
 pub returns-then-not-same : goal.returns-then-not-same
 returns-then-not-same t c =
@@ -42,13 +42,13 @@ returns-then-element-n t c = free (λ le le' s u hs hu. let p = list_low c.in-Li
 pub returns-then-count-c-3 : goal.returns-then-count-c-3
 returns-then-count-c-3 t c = members_apart c.in-Union.is c.in-Union-b.is c.if-count-c-3.true
 
-pub returns-then-not-run-below-3 : goal.returns-then-not-run-below-3
-returns-then-not-run-below-3 t c = free (λ le le' s u hs hu. let low = union_low c.in-Union.is hs in both_ways false refl (c.if-not-run-below-3.ensures.1 (omega arith)))
+pub returns-then-not-run_below-3 : goal.returns-then-not-run_below-3
+returns-then-not-run_below-3 t c = free (λ le le' s u hs hu. let low = union_low c.in-Union.is hs in both_ways false refl (c.if-not-run_below-3.ensures.1 (omega arith)))
 
-pub returns-then-not-run-below-4 : goal.returns-then-not-run-below-4
-returns-then-not-run-below-4 t c =
+pub returns-then-not-run_below-4 : goal.returns-then-not-run_below-4
+returns-then-not-run_below-4 t c =
     let e = c.if-count-c-3.false in
-    free (λ le le' s u hs hu. let low = union_low c.in-Union-b.is hu in both_ways false refl (c.if-not-run-below-4.ensures.1 (omega arith)))
+    free (λ le le' s u hs hu. let low = union_low c.in-Union-b.is hu in both_ways false refl (c.if-not-run_below-4.ensures.1 (omega arith)))
 
 pub returns-then-not-same-3 : goal.returns-then-not-same-3
 returns-then-not-same-3 t c =
@@ -62,7 +62,7 @@ pub returns-in-NumberLiteral-b : goal.returns-in-NumberLiteral-b
 returns-in-NumberLiteral-b t c =
     let f : SFits w16 c.in-NumberLiteral.exponent = search rules in
     let g : SFits w16 c.in-NumberLiteral-b.e = search rules in
-    numbers_same c.in-NumberLiteral.is c.in-NumberLiteral-b.is (simp to_z-of_z at c.same-number.ensures)
+    numbers_same c.in-NumberLiteral.is c.in-NumberLiteral-b.is (simp to_z-of_z at c.same_number.ensures)
 
 pub returns-in_default-b : goal.returns-in_default-b
 returns-in_default-b t c = not_number c.in-NumberLiteral.is c.in_default-b.not-NumberLiteral
@@ -70,7 +70,7 @@ returns-in_default-b t c = not_number c.in-NumberLiteral.is c.in_default-b.not-N
 pub returns-else-count-c : goal.returns-else-count-c
 returns-else-count-c t c =
     let e = c.if-count-c.false in
-    strings_same c.in-StringLiteral.is (rw (← e) at c.in-StringLiteral-b.is) c.same-units.ensures
+    strings_same c.in-StringLiteral.is (rw (← e) at c.in-StringLiteral-b.is) c.same_units.ensures
 
 pub returns-in_default-b-2 : goal.returns-in_default-b-2
 returns-in_default-b-2 t c = not_string c.in-StringLiteral.is c.in_default-b-2.not-StringLiteral
@@ -105,4 +105,4 @@ returns-in_default-b-6 t c = not_union c.in-Union.is c.in_default-b-6.not-Union
 
 pub returns-in_default : goal.returns-in_default
 returns-in_default t c =
-    plains_same c.in_default.not-NumberLiteral c.in_default.not-StringLiteral c.in_default.not-Function c.in_default.not-Pair c.in_default.not-List c.in_default.not-Union (told _ _ c.plain-number.ensures c.plain-number-in_default.ensures)
+    plains_same c.in_default.not-NumberLiteral c.in_default.not-StringLiteral c.in_default.not-Function c.in_default.not-Pair c.in_default.not-List c.in_default.not-Union (told _ _ c.plain_number.ensures c.plain_number-in_default.ensures)

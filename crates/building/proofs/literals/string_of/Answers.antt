@@ -10,18 +10,18 @@ loop-unit-init c = (refl, none_filled _ _ _ c.if-used-types.false)
 pub loop-unit-smaller : goal.loop-unit-smaller
 loop-unit-smaller c = let on = c.in-Some.ensures.unit in omega (arith, on.1, on.2, ap length c.loop-unit.invariant.0)
 
-pub returns-then-not-put-unit : goal.returns-then-not-put-unit
-returns-then-not-put-unit c =
-    let full = c.if-not-put-unit.ensures in
+pub returns-then-not-put_unit : goal.returns-then-not-put_unit
+returns-then-not-put_unit c =
+    let full = c.if-not-put_unit.ensures in
     record {
       made = string_full _ c.loop-unit.types _ _ c.loop-unit.decoder.text.now c.loop-unit.invariant.0 c.loop-unit.decoder.at _ c.loop-unit.invariant.1 c.in-Some.unit _ c.loop-unit.auto.types full.0 c.in-Some.ensures.unit;
-      kept = kept_same _ c.loop-unit.types _ {gs = c.put-unit.new.types} full.1 c.loop-unit.invariant.1.same;
+      kept = kept_same _ c.loop-unit.types _ {gs = c.put_unit.new.types} full.1 c.loop-unit.invariant.1.same;
     }
 
 pub loop-unit-preserved : goal.loop-unit-preserved
 loop-unit-preserved c = (
   c.in-Some.ensures.text ∙ c.loop-unit.invariant.0,
-  unit_filled _ _ _ _ c.loop-unit.decoder.text.now c.loop-unit.invariant.0 c.loop-unit.decoder.at _ c.loop-unit.invariant.1 c.in-Some.unit _ c.if-not-put-unit.ensures c.in-Some.ensures.unit,
+  unit_filled _ _ _ _ c.loop-unit.decoder.text.now c.loop-unit.invariant.0 c.loop-unit.decoder.at _ c.loop-unit.invariant.1 c.in-Some.unit _ c.if-not-put_unit.ensures c.in-Some.ensures.unit,
 )
 
 pub returns : goal.returns

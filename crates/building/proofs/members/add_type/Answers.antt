@@ -7,14 +7,14 @@ use Rattle.building.proofs.members.add_type.Goals as goal
 
 pub returns-in_default : goal.returns-in_default
 returns-in_default c = record {
-  adds = one_added _ _ _ _ c.add-member.result c.in_default.not-Union c.add-member.ensures.adds;
-  kept = c.add-member.ensures.kept;
-  within = c.add-member.ensures.within;
+  adds = one_added _ _ _ _ c.add_member.result c.in_default.not-Union c.add_member.ensures.adds;
+  kept = c.add_member.ensures.kept;
+  within = c.add_member.ensures.within;
 }
 
-pub returns-then-not-run-below : goal.returns-then-not-run-below
-returns-then-not-run-below c = record {
-  adds = λ t xs ys some h flat o. let low = union_low c.in-Union.is h in absurd (both_ways false refl (c.if-not-run-below.ensures.1 low));
+pub returns-then-not-run_below : goal.returns-then-not-run_below
+returns-then-not-run_below c = record {
+  adds = λ t xs ys some h flat o. let low = union_low c.in-Union.is h in absurd (both_ways false refl (c.if-not-run_below.ensures.1 low));
   kept = λ j lt. refl;
   within = tt;
 }
@@ -22,15 +22,15 @@ returns-then-not-run-below c = record {
 pub loop-k-init : goal.loop-k-init
 loop-k-init c = none_added _ _ _ _ _ c.requires
 
-pub returns-in_default-add-member : goal.returns-in_default-add-member
-returns-in_default-add-member c = record {
-  adds = not_all_added _ _ _ _ _ c.in-Union.is (none_fits _ _ _ _ _ _ _ _ c.loop-k-test.true (c.if-not-run-below.ensures.0 refl) c.loop-k.invariant c.in_default-add-member.ensures.adds);
-  kept = λ j lt. c.in_default-add-member.ensures.kept j lt ∙ c.loop-k.invariant.1 j lt;
+pub returns-in_default-add_member : goal.returns-in_default-add_member
+returns-in_default-add_member c = record {
+  adds = not_all_added _ _ _ _ _ c.in-Union.is (none_fits _ _ _ _ _ _ _ _ c.loop-k-test.true (c.if-not-run_below.ensures.0 refl) c.loop-k.invariant c.in_default-add_member.ensures.adds);
+  kept = λ j lt. c.in_default-add_member.ensures.kept j lt ∙ c.loop-k.invariant.1 j lt;
   within = tt;
 }
 
 pub loop-k-preserved : goal.loop-k-preserved
-loop-k-preserved c = more_added _ _ _ _ _ _ _ _ c.loop-k-test.true (c.if-not-run-below.ensures.0 refl) c.loop-k.invariant c.add-member-in-loop-k.auto.types c.in-Some.ensures.kept c.in-Some.ensures.within c.in-Some.ensures.adds
+loop-k-preserved c = more_added _ _ _ _ _ _ _ _ c.loop-k-test.true (c.if-not-run_below.ensures.0 refl) c.loop-k.invariant c.add_member-in-loop-k.auto.types c.in-Some.ensures.kept c.in-Some.ensures.within c.in-Some.ensures.adds
 
 pub returns : goal.returns
 returns c = record {

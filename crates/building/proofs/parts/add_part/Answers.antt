@@ -11,7 +11,7 @@ returns-in_default c = record {
 
 pub returns : goal.returns
 returns c = record {
-  adds = part_added _ _ _ _ _ _ _ c.add-type.result (λ t h. c.in-Some.ensures (omega (arith, c.requires)) t h) c.add-type.ensures.adds;
-  kept = c.add-type.ensures.kept;
-  within = c.add-type.ensures.within;
+  adds = part_added _ _ _ _ _ _ _ c.add_type.result (λ t h. c.in-Some.ensures (omega (arith, c.requires)) t h) c.add_type.ensures.adds;
+  kept = c.add_type.ensures.kept;
+  within = c.add_type.ensures.within;
 }

@@ -14,7 +14,7 @@ returns-in_default c = record {
 }
 
 pub loop-k-preserved : goal.loop-k-preserved
-loop-k-preserved c = more_parted _ _ _ _ _ _ _ _ c.loop-k-test.true c.requires.0 c.loop-k.invariant c.add-part.auto.types c.in-Some.ensures.kept c.in-Some.ensures.within c.in-Some.ensures.adds
+loop-k-preserved c = more_parted _ _ _ _ _ _ _ _ c.loop-k-test.true c.requires.0 c.loop-k.invariant c.add_part.auto.types c.in-Some.ensures.kept c.in-Some.ensures.within c.in-Some.ensures.adds
 
 pub returns : goal.returns
 returns c = record {

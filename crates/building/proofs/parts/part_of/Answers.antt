@@ -17,32 +17,32 @@ returns-in-None c = record {
   kept = λ j lt. refl;
 }
 
-pub returns-then-not-run-below : goal.returns-then-not-run-below
-returns-then-not-run-below c = record {
-  made = λ le t h form. let low = union_low c.in-Union.is h in absurd (both_ways false refl (c.if-not-run-below.ensures.1 (omega arith)));
+pub returns-then-not-run_below : goal.returns-then-not-run_below
+returns-then-not-run_below c = record {
+  made = λ le t h form. let low = union_low c.in-Union.is h in absurd (both_ways false refl (c.if-not-run_below.ensures.1 (omega arith)));
   kept = λ j lt. refl;
 }
 
-pub returns-then-has-any-part : goal.returns-then-has-any-part
-returns-then-has-any-part c = record {
-  made = any_made _ _ _ _ _ _ c.in-Union.is c.if-has-any-part.ensures;
+pub returns-then-has_any_part : goal.returns-then-has_any_part
+returns-then-has_any_part c = record {
+  made = any_made _ _ _ _ _ _ c.in-Union.is c.if-has_any_part.ensures;
   kept = λ j lt. refl;
 }
 
-pub returns-in_default-add-parts : goal.returns-in_default-add-parts
-returns-in_default-add-parts c = record {
-  made = no_room_made _ _ _ _ _ _ c.in-Union.is c.if-has-any-part.ensures c.in_default-add-parts.ensures.adds;
-  kept = c.in_default-add-parts.ensures.kept;
+pub returns-in_default-add_parts : goal.returns-in_default-add_parts
+returns-in_default-add_parts c = record {
+  made = no_room_made _ _ _ _ _ _ c.in-Union.is c.if-has_any_part.ensures c.in_default-add_parts.ensures.adds;
+  kept = c.in_default-add_parts.ensures.kept;
 }
 
 pub returns-then-count-eq0 : goal.returns-then-count-eq0
 returns-then-count-eq0 c = record {
-  made = union_lacking _ _ _ _ _ _ c.in-Union.is c.if-has-any-part.ensures _ _ c.in-Some-add-parts.ensures.adds c.if-count-eq0.true;
-  kept = c.in-Some-add-parts.ensures.kept;
+  made = union_lacking _ _ _ _ _ _ c.in-Union.is c.if-has_any_part.ensures _ _ c.in-Some-add_parts.ensures.adds c.if-count-eq0.true;
+  kept = c.in-Some-add_parts.ensures.kept;
 }
 
 pub returns : goal.returns
 returns c = record {
-  made = union_part_made _ _ _ _ _ _ c.in-Union.is c.if-has-any-part.ensures _ _ c.in-Some-add-parts.ensures.adds _ c.if-count-eq0.false c.close.ensures;
-  kept = c.in-Some-add-parts.ensures.kept;
+  made = union_part_made _ _ _ _ _ _ c.in-Union.is c.if-has_any_part.ensures _ _ c.in-Some-add_parts.ensures.adds _ c.if-count-eq0.false c.close.ensures;
+  kept = c.in-Some-add_parts.ensures.kept;
 }

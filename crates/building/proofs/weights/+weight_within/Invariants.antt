@@ -1,8 +1,8 @@
 use Rattle.building.proofs.Weigh.{Left}
 use Rattle.building.proofs.weights.+weight_within.Given as goal
 
-abbrev pub decreases-weight-within : goal.decreases-weight-within
-decreases-weight-within l = l.n
+abbrev pub decreases-weight_within : goal.decreases-weight_within
+decreases-weight_within l = l.n
 
 -- the weights of the parameters so far, and what the others add
 abbrev pub invariant-loop-k : goal.invariant-loop-k

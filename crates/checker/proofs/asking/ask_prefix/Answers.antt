@@ -6,14 +6,14 @@ use Rattle.checker.proofs.asking.ask_prefix.Goals as goal
 
 pub returns-in-Not : goal.returns-in-Not
 returns-in-Not c = record {
-  lent = c.ask-fits.ensures.lent;
-  asked = λ low t u cs a r. asks_as _ _ (as_prefix _ t u cs c.in-Not.is r).1 (c.ask-fits.ensures.asked low t _ a is_boolean);
+  lent = c.ask_fits.ensures.lent;
+  asked = λ low t u cs a r. asks_as _ _ (as_prefix _ t u cs c.in-Not.is r).1 (c.ask_fits.ensures.asked low t _ a is_boolean);
 }
 
 pub returns-in-Negate : goal.returns-in-Negate
 returns-in-Negate c = record {
-  lent = c.ask-fits-in-Negate.ensures.lent;
-  asked = λ low t u cs a r. asks_as _ _ (as_prefix _ t u cs c.in-Negate.is r).1 (c.ask-fits-in-Negate.ensures.asked low t _ a is_number);
+  lent = c.ask_fits-in-Negate.ensures.lent;
+  asked = λ low t u cs a r. asks_as _ _ (as_prefix _ t u cs c.in-Negate.is r).1 (c.ask_fits-in-Negate.ensures.asked low t _ a is_number);
 }
 
 pub returns-in-Typeof : goal.returns-in-Typeof

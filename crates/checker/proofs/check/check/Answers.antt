@@ -4,34 +4,34 @@ use Rattle.checker.specs.Checks.{short_table, damaged, too_heavy}
 use Rattle.checker.proofs.Checking.{refuted, enough, heavy_walk, checked_as}
 use Rattle.checker.proofs.check.check.Goals as goal
 
-pub returns-then-is-short : goal.returns-then-is-short
-returns-then-is-short g c = (short_table (c.is-short.ensures.0 c.if-is-short.true), refl, c.blank-out.ensures)
+pub returns-then-is_short : goal.returns-then-is_short
+returns-then-is_short g c = (short_table (c.is_short.ensures.0 c.if-is_short.true), refl, c.blank_out.ensures)
 
 pub returns-then-not-proper : goal.returns-then-not-proper
 returns-then-not-proper g c = (
-  damaged (refuted _ c.is-short.ensures c.if-is-short.false) (λ p. refuted _ c.proper.ensures c.if-not-proper.true (subst (AllProper _ _) (sym c.used.ensures) p)),
+  damaged (refuted _ c.is_short.ensures c.if-is_short.false) (λ p. refuted _ c.proper.ensures c.if-not-proper.true (subst (AllProper _ _) (sym c.used.ensures) p)),
   refl,
-  c.blank-out.ensures,
+  c.blank_out.ensures,
 )
 
 pub returns-then-w : goal.returns-then-w
 returns-then-w g c =
-    let long = refuted _ c.is-short.ensures c.if-is-short.false in
+    let long = refuted _ c.is_short.ensures c.if-is_short.false in
     let e = enough _ long in (
       too_heavy long (subst (AllProper _ _) c.used.ensures (c.proper.ensures.0 c.if-not-proper.false))
           (λ ss ns rep typed. heavy_walk c.if-w.true
-          (c.walk-over-w.ensures ss ns (subst (λ i. Listed c.args.tree.now i ss) (sym c.last.ensures) rep.listed) rep.small typed (g.F.Register.sound c.args.first.now) e.0 e.1 e.2 c.blank-out.ensures)),
+          (c.walk_over-w.ensures ss ns (subst (λ i. Listed c.args.tree.now i ss) (sym c.last.ensures) rep.listed) rep.small typed (g.F.Register.sound c.args.first.now) e.0 e.1 e.2 c.blank_out.ensures)),
       refl,
-      c.blank-out-then-w.ensures,
+      c.blank_out-then-w.ensures,
     )
 
 pub returns : goal.returns
 returns g c =
-    let long = refuted _ c.is-short.ensures c.if-is-short.false in
+    let long = refuted _ c.is_short.ensures c.if-is_short.false in
     let e = enough _ long in
     let sound = g.F.Register.sound c.args.first.now in (
       long,
       subst (AllProper _ _) c.used.ensures (c.proper.ensures.0 c.if-not-proper.false),
       λ ss rep. checked_as _ _ ss _ _ _ c.if-w.false sound rep.written
-          (λ ns typed. c.walk-over-w.ensures ss ns (subst (λ i. Listed c.args.tree.now i ss) (sym c.last.ensures) rep.listed) rep.small typed sound e.0 e.1 e.2 c.blank-out.ensures) _ c.new.ensures,
+          (λ ns typed. c.walk_over-w.ensures ss ns (subst (λ i. Listed c.args.tree.now i ss) (sym c.last.ensures) rep.listed) rep.small typed sound e.0 e.1 e.2 c.blank_out.ensures) _ c.new.ensures,
     )

@@ -8,7 +8,7 @@ returns-in-Number c = record {
   lent = refl;
   makes = λ ts sheet Γ p n t cs tabled same other rule.
       let form = as_literal sheet Γ p n _ t cs c.in-Number.is same rule in
-      ready_as _ _ _ form.2 (c.number-made.ensures _ ts form.0 tabled refl form.1);
+      ready_as _ _ _ form.2 (c.number_made.ensures _ ts form.0 tabled refl form.1);
 }
 
 pub returns-in-Text : goal.returns-in-Text

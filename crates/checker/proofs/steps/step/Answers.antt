@@ -4,8 +4,8 @@ use Rattle.checker.proofs.steps.step.Goals as goal
 
 pub returns-in-Some : goal.returns-in-Some
 returns-in-Some g c = record {
-  lent = c.see-to.ensures.lent;
-  steps = λ whole left sound st. c.see-to.ensures.onward whole left sound (popped _ _ _ c.in-Some.ensures.holds c.in-Some.ensures.space refl refl refl (goes_light _ c.if-store.false st));
+  lent = c.see_to.ensures.lent;
+  steps = λ whole left sound st. c.see_to.ensures.onward whole left sound (popped _ _ _ c.in-Some.ensures.holds c.in-Some.ensures.space refl refl refl (goes_light _ c.if-store.false st));
 }
 
 pub returns-in-None : goal.returns-in-None

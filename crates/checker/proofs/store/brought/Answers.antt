@@ -7,6 +7,6 @@ returns c =
     record {
       lent = refl;
       brought = λ ts t tabled within filled light h.
-          part_ready _ _ tabled c.limit-of-limit.ensures.limit _ c.copied.new.types c.copied.auto.types refl t _ refl refl refl refl c.copied.ensures.kept
+          part_ready _ _ tabled c.limit_of-limit.ensures.limit _ c.copied.new.types c.copied.auto.types refl t _ refl refl refl refl c.copied.ensures.kept
           (copy_part _ _ _ t c.args.made _ light (c.copied.ensures.made within filled t h));
     }

@@ -7,5 +7,5 @@ returns c =
     record {
       lent = refl;
       kept = λ ts t tabled h.
-          kept_type c.args.store.now c.args.made t tabled h _ (c.weight-of-weight.ensures (omega (arith, h.3, tabled.size)) t h.0) _ c.if-weight-load.false refl refl refl refl refl;
+          kept_type c.args.store.now c.args.made t tabled h _ (c.weight_of-weight.ensures (omega (arith, h.3, tabled.size)) t h.0) _ c.if-weight-load.false refl refl refl refl refl;
     }

@@ -7,6 +7,6 @@ returns c =
     record {
       lent = refl;
       spelled = λ ts t tabled h.
-          part_ready _ _ tabled c.limit-of-limit.ensures.limit _ c.string_of.new.types c.string_of.auto.types refl _ _ refl refl refl refl c.string_of.ensures.kept
+          part_ready _ _ tabled c.limit_of-limit.ensures.limit _ c.string_of.new.types c.string_of.auto.types refl _ _ refl refl refl refl c.string_of.ensures.kept
           (string_part _ _ _ t _ (c.string_of.ensures.made t h));
     }

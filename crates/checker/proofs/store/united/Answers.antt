@@ -7,7 +7,7 @@ returns c =
     record {
       lent = refl;
       united = λ ts t u v tabled a b f g h.
-          let limit = c.limit-of-limit.ensures.limit in
-          part_ready _ _ tabled limit _ c.union-of-two.new.types c.union-of-two.auto.types refl v _ refl refl refl refl c.union-of-two.ensures.kept
-          (union_part _ _ _ _ h (c.union-of-two.ensures.made t u (given _ _ tabled limit a) (given _ _ tabled limit b) f g));
+          let limit = c.limit_of-limit.ensures.limit in
+          part_ready _ _ tabled limit _ c.union_of_two.new.types c.union_of_two.auto.types refl v _ refl refl refl refl c.union_of_two.ensures.kept
+          (union_part _ _ _ _ h (c.union_of_two.ensures.made t u (given _ _ tabled limit a) (given _ _ tabled limit b) f g));
     }

@@ -4,29 +4,29 @@ use Rattle.checker.proofs.Visiting.{visiting, unary_visit, binary_visit, choice_
 use Rattle.checker.proofs.visit.visit_expression.Goals as goal
 
 pub returns-in-Leaf : goal.returns-in-Leaf
-returns-in-Leaf g c = record { lent = c.visit-leaf.ensures.lent; onward = c.visit-leaf.ensures.visits c.args.tree.now c.args.i (sym c.in-Leaf.ensures) }
+returns-in-Leaf g c = record { lent = c.visit_leaf.ensures.lent; onward = c.visit_leaf.ensures.visits c.args.tree.now c.args.i (sym c.in-Leaf.ensures) }
 
 pub returns-in-Unary : goal.returns-in-Unary
 returns-in-Unary g c = record {
   lent = (refl, refl);
-  onward = λ whole left sound h. goes_on (pushed_goes _ _ _ _ _ h c.wait-two.ensures (unary_visit h.notes (visiting h.notes _ (sym c.in-Unary.ensures) h.goes)));
+  onward = λ whole left sound h. goes_on (pushed_goes _ _ _ _ _ h c.wait_two.ensures (unary_visit h.notes (visiting h.notes _ (sym c.in-Unary.ensures) h.goes)));
 }
 
 pub returns-in-Binary : goal.returns-in-Binary
 returns-in-Binary g c = record {
   lent = (refl, refl);
-  onward = λ whole left sound h. goes_on (pushed_goes _ _ _ _ _ h c.wait-three.ensures (binary_visit h.notes (visiting h.notes _ (sym c.in-Binary.ensures) h.goes)));
+  onward = λ whole left sound h. goes_on (pushed_goes _ _ _ _ _ h c.wait_three.ensures (binary_visit h.notes (visiting h.notes _ (sym c.in-Binary.ensures) h.goes)));
 }
 
 pub returns-in-Choice : goal.returns-in-Choice
 returns-in-Choice g c = record {
   lent = (refl, refl);
-  onward = λ whole left sound h. goes_on (pushed_goes _ _ _ _ _ h c.wait-four.ensures (choice_visit h.notes (visiting h.notes _ (sym c.in-Choice.ensures) h.goes)));
+  onward = λ whole left sound h. goes_on (pushed_goes _ _ _ _ _ h c.wait_four.ensures (choice_visit h.notes (visiting h.notes _ (sym c.in-Choice.ensures) h.goes)));
 }
 
 pub returns-in_default : goal.returns-in_default
 returns-in_default g c = record {
   lent = (refl, refl);
   onward = λ whole left sound h.
-      absurd (no_visit h.notes (visiting h.notes _ (sym c.tree-at.ensures) h.goes) c.in_default.not-Leaf c.in_default.not-Unary c.in_default.not-Binary c.in_default.not-Choice);
+      absurd (no_visit h.notes (visiting h.notes _ (sym c.tree_at.ensures) h.goes) c.in_default.not-Leaf c.in_default.not-Unary c.in_default.not-Binary c.in_default.not-Choice);
 }

@@ -8,8 +8,8 @@ returns-then-i-eq0 c sheet Γ f s whole left sound h = goes_on (goes_with h (sta
 
 pub returns-in-Statement : goal.returns-in-Statement
 returns-in-Statement c sheet Γ f s whole left sound h =
-    goes_on (pushed_goes _ _ _ _ _ h c.wait-two.ensures (statement_visit h.notes _ _ _ _ (omega (arith, c.if-i-eq0.false)) (sym c.in-Statement.ensures) h.goes))
+    goes_on (pushed_goes _ _ _ _ _ h c.wait_two.ensures (statement_visit h.notes _ _ _ _ (omega (arith, c.if-i-eq0.false)) (sym c.in-Statement.ensures) h.goes))
 
 pub returns-in_default : goal.returns-in_default
 returns-in_default c sheet Γ f s whole left sound h =
-    absurd (no_statement h.notes _ _ (omega (arith, c.if-i-eq0.false)) (λ b j q. c.in_default.not-Statement b j (c.tree-at.ensures ∙ q)) h.goes)
+    absurd (no_statement h.notes _ _ (omega (arith, c.if-i-eq0.false)) (λ b j q. c.in_default.not-Statement b j (c.tree_at.ensures ∙ q)) h.goes)

@@ -4,12 +4,12 @@ use Rattle.checker.proofs.walk.finish_binary.Goals as goal
 
 pub returns : goal.returns
 returns c = record {
-  lent = (c.ask-infix.ensures.lent, c.ended.ensures.lent ∙ c.infix-made-made.ensures.lent);
+  lent = (c.ask_infix.ensures.lent, c.ended.ensures.lent ∙ c.infix_made-made.ensures.lent);
   onward = λ sheet Γ table whole left sound g.
       let h = binary_ready sheet Γ table whole left _ _ _ _ _ _ _ c.take-right.ensures.takes c.take-left.ensures.takes g in
-      let form = c.rule-of-rule.ensures _ _ _ _ _ _ _ _ h.is_left h.is_right h.rule in
-      let ready = c.infix-made-made.ensures.makes _ _ _ _ _ _ _ g.tabled h.is_right h.right_formed form in
+      let form = c.rule_of-rule.ensures _ _ _ _ _ _ _ _ h.is_left h.is_right h.rule in
+      let ready = c.infix_made-made.ensures.makes _ _ _ _ _ _ _ g.tabled h.is_right h.right_formed form in
       c.ended.ensures.ends sheet Γ table whole left _ h.result
-      (finished _ _ _ _ _ _ _ h.finishing refl (c.take-left.ensures.space ∙ c.take-right.ensures.space) refl (c.ask-infix.ensures.asked (in_table g.tabled) _ _ _ _ h.is_left h.is_right form) ready)
+      (finished _ _ _ _ _ _ _ h.finishing refl (c.take-left.ensures.space ∙ c.take-right.ensures.space) refl (c.ask_infix.ensures.asked (in_table g.tabled) _ _ _ _ h.is_left h.is_right form) ready)
       ready.in_hand;
 }

@@ -4,11 +4,11 @@ use Rattle.checker.proofs.walk.finish_unary.Goals as goal
 
 pub returns : goal.returns
 returns c = record {
-  lent = (c.ask-prefix.ensures.lent, c.ended.ensures.lent);
+  lent = (c.ask_prefix.ensures.lent, c.ended.ensures.lent);
   onward = λ sheet Γ table whole left sound g.
       let h = unary_ready sheet Γ table whole left _ _ _ _ _ _ c.take-v.ensures.takes g in
-      let ready = c.prefix-made-made.ensures _ _ _ _ _ g.tabled h.rule in
+      let ready = c.prefix_made-made.ensures _ _ _ _ _ g.tabled h.rule in
       c.ended.ensures.ends sheet Γ table whole left _ h.result
-      (finished _ _ _ _ _ _ _ h.finishing refl c.take-v.ensures.space refl (c.ask-prefix.ensures.asked (in_table g.tabled) _ _ _ h.is h.rule) ready)
+      (finished _ _ _ _ _ _ _ h.finishing refl c.take-v.ensures.space refl (c.ask_prefix.ensures.asked (in_table g.tabled) _ _ _ h.is h.rule) ready)
       ready.in_hand;
 }

@@ -5,5 +5,5 @@ use Rattle.host.proofs.layout.put.Goals as goal
 
 pub returns : goal.returns
 returns c =
-    came_back c.args.out.now c.args.at (c.args.at + 4) c.copy-from-slice.new.self (word c.args.value) refl
-    (c.copy-from-slice.ensures.after ∙ ap (take 4) c.to-le-bytes-bytes.ensures)
+    came_back c.args.out.now c.args.at (c.args.at + 4) c.copy_from_slice.new.self (word c.args.value) refl
+    (c.copy_from_slice.ensures.after ∙ ap (take 4) c.to_le_bytes-bytes.ensures)

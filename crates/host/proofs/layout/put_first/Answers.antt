@@ -11,7 +11,7 @@ pub loop-i-preserved : goal.loop-i-preserved
 loop-i-preserved c =
     let i = c.loop-i.i in
     let xs = c.args.findings.now in
-    c.put-finding.ensures
+    c.put_finding.ensures
     ∙ ap (λ o. replaced o (8 + 8 * i) (row (get_or xs i blank))) c.loop-i.invariant
     ∙ next_row c.args.out.now xs i blank (omega arith) (omega arith)
 

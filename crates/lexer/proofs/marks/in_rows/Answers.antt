@@ -11,7 +11,7 @@ returns-then-first-lt97 c = (
 )
 
 pub listed-requires : goal.listed-requires
-listed-requires c = omega (arith, row_within _ _ c.requires c.byte-at-first.result c.if-first-gt122.false, entries c.args.table.now)
+listed-requires c = omega (arith, row_within _ _ c.requires c.byte_at-first.result c.if-first-gt122.false, entries c.args.table.now)
 
 pub returns : goal.returns
-returns c = row_decides _ _ c.requires _ c.if-first-gt122.false _ _ c.byte-at-first.ensures c.listed.ensures
+returns c = row_decides _ _ c.requires _ c.if-first-gt122.false _ _ c.byte_at-first.ensures c.listed.ensures

@@ -7,7 +7,7 @@ returns c =
     let seen = c.in-Some.ensures in
     let took = popped _ _ seen.0 _ c.pop.result seen.1 c.pop.ensures.holds in
     record {
-      top = reduced_top _ _ _ seen.0 _ _ c.pop.result _ _ seen.1 c.pop.ensures.holds (sym c.in-Some-completion-of.ensures) (omega (arith, c.awaits-of.ensures)) (omega (arith, ap length took));
+      top = reduced_top _ _ _ seen.0 _ _ c.pop.result _ _ seen.1 c.pop.ensures.holds (sym c.in-Some-completion_of.ensures) (omega (arith, c.awaits_of.ensures)) (omega (arith, ap length took));
       uses = (refl, omega (arith, ap length took));
       space = c.pop.ensures.space;
     }

@@ -10,7 +10,7 @@ pub step-requires : goal.step-requires
 step-requires c =
     let clean = c.requires.clean.1 in
     let g = given c.loop-found.invariant.0 _ _ c.in-Some.is c.in-Ok.ensures.reads in
-    let more = not_all _ g _ c.token-of.ensures (c.loop-found.invariant.3 clean.tokens clean.lexes) in
+    let more = not_all _ g _ c.token_of.ensures (c.loop-found.invariant.3 clean.tokens clean.lexes) in
     record {
       fits = omega (arith, more, clean.count, clean.few, c.requires.entries);
       room = omega (arith, more, clean.count, clean.few, c.requires.pending, c.loop-found.invariant.2, c.new-stack.ensures.space);
@@ -30,7 +30,7 @@ loop-found-preserved c =
       told.space ∙ c.loop-found.invariant.2,
       λ ls l.
           let h = c.loop-found.invariant.3 ls l in
-          along_more _ g _ c.token-of.ensures h (told.turns _ _ _ _ (lies_within _ g _ c.token-of.ensures h) h.sofar.holds) told.uses,
+          along_more _ g _ c.token_of.ensures h (told.turns _ _ _ _ (lies_within _ g _ c.token_of.ensures h) h.sofar.holds) told.uses,
     )
 
 pub returns-in-None-step : goal.returns-in-None-step
@@ -38,7 +38,7 @@ returns-in-None-step c =
     let clean = c.requires.clean.1 in
     let g = given c.loop-found.invariant.0 _ _ c.in-Some.is c.in-Ok.ensures.reads in
     let h = c.loop-found.invariant.3 clean.tokens clean.lexes in
-    (refl, refused_here _ g _ c.token-of.ensures h clean.lexes (c.in-None-step.ensures.turns _ _ _ _ (lies_within _ g _ c.token-of.ensures h) h.sofar.holds))
+    (refl, refused_here _ g _ c.token_of.ensures h clean.lexes (c.in-None-step.ensures.turns _ _ _ _ (lies_within _ g _ c.token_of.ensures h) h.sofar.holds))
 
 pub returns-in-None : goal.returns-in-None
 returns-in-None c =
