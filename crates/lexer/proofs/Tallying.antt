@@ -6,7 +6,7 @@ use Rattle.lexer.specs.Faults.{FirstFault}
 use Rattle.lexer.specs.declared.reasons.Reason.TheVariants.{LineFeed, ManyTokens}
 use Rattle.lexer.specs.Reading.{Lexes, done, refused, token, Ending, finished, stopped, Given, Finished, Stopped}
 use Rattle.lexer.specs.declared.refusal.Refusal.{Refusal}
-use Rattle.lexer.specs.Scanning.{Tok, text, nth, NextTo, next_here, next_later, BrokenLine, broken_line, FeedBetween, TokenFault, Clean}
+use Rattle.lexer.specs.Scanning.{Tok, text, nth, next_here, next_later, BrokenLine, broken_line, FeedBetween, TokenFault, Clean}
 use Rattle.lexer.specs.Tallies.{Knows, knows_none, knows_last, joined, Seen, Whole, Tallied, Breaks, LineWith}
 use Rattle.lexer.specs.declared.read.Token.{Token}
 use Rattle.lexer.specs.declared.scan.Tally.{Tally}

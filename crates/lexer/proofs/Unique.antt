@@ -1,10 +1,9 @@
 -- A sheet has one list of tokens and one ending. Assumes nothing.
-use Rattle.std.proofs.Common.{◌≡◌, ℕ, ◌+◌, ◌-◌, ◌<◌, ◌≤◌, List, length, take, drop, sym, refl, ap, ◌∙◌, subst, ⊎_elim, arith, length-drop}
+use Rattle.std.proofs.Common.{◌≡◌, ℕ, ◌+◌, ◌<◌, ◌≤◌, List, length, take, drop, sym, refl, ap, ◌∙◌, subst, ⊎_elim, arith, length-drop}
 use Rattle.std.proofs.lemmas.Bool.{cases_lt}
 use Rattle.lexer.specs.Runs.{Run}
 use Rattle.lexer.specs.Gaps.{NotFeed, Closed, Piece, blank, line, block, Gap, ends, more}
 use Rattle.lexer.specs.Tokens.{TokenAt, Spelled}
-use Rattle.lexer.specs.declared.classes.Class.TheVariants.{Mark}
 use Rattle.lexer.specs.declared.kinds.Kind.{Kind}
 use Rattle.lexer.specs.declared.kinds.Kind.TheVariants as kind
 use Rattle.lexer.specs.Sizes.{Small}

@@ -1,8 +1,8 @@
 -- Which fault of a sheet's tokens is the first. Assumes nothing.
-use Rattle.std.proofs.Common.{◌≡◌, ℕ, ◌<◌, ◌≤◌, ◌⊎◌, List, [], ◌∷◌, length, sym, refl, subst, inl, inr, arith, lit≤}
+use Rattle.std.proofs.Common.{◌≡◌, ℕ, ◌<◌, ◌≤◌, ◌⊎◌, List, length, sym, refl, subst, inr, arith, lit≤}
 use Rattle.lexer.specs.Refusals.{turn}
 use Rattle.lexer.specs.Faults.{FirstFault}
-use Rattle.lexer.specs.Reading.{Lexes, refused, token, finished, stopped, Why, no_token, too_large}
+use Rattle.lexer.specs.Reading.{Lexes, refused, token, finished, stopped, no_token, too_large}
 use Rattle.lexer.specs.Scanning.{Tok, nth, BrokenLine, TokenFault, too_long, not_lexed, line_broken, too_many, Clean}
 use Rattle.lexer.specs.declared.reasons.Reason.{Reason}
 use Rattle.lexer.specs.declared.reasons.Reason.TheVariants.{LongSheet, LineFeed, ManyTokens, NoProgram}

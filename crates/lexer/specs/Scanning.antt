@@ -1,5 +1,5 @@
 -- The rules on the tokens of a whole sheet. Assumes nothing.
-use Rattle.std.specs.Prelude.{◌≡◌, ℕ, ◌+◌, ◌<◌, ◌≤◌, ◌⊎◌, List, [], ◌∷◌, length, take, drop, Ok, Err, codes, Result, slice_index, slice_index_or}
+use Rattle.std.specs.Prelude.{◌≡◌, ℕ, ◌+◌, ◌<◌, ◌≤◌, ◌⊎◌, List, ◌∷◌, length, take, drop, Ok, Err, codes, Result, slice_index, slice_index_or}
 use Rattle.lexer.specs.Faults.{FirstFault}
 use Rattle.lexer.specs.Reading.{Lexes, finished, stopped}
 use Rattle.lexer.specs.declared.kinds.Kind.{Kind}

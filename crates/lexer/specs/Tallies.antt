@@ -1,6 +1,6 @@
 -- What a scan has seen so far. No public contract cites it. Assumes nothing.
-use Rattle.std.specs.Prelude.{◌≡◌, ℕ, ◌+◌, ◌<◌, ◌≤◌, true, ◌⊎◌, List, [], ◌∷◌, length, Some, None, codes, Decides, Option, MatchOption}
-use Rattle.lexer.specs.Reading.{Lexes, Ending, Given}
+use Rattle.std.specs.Prelude.{◌≡◌, ℕ, ◌+◌, ◌<◌, ◌≤◌, true, ◌⊎◌, List, ◌∷◌, length, Some, None, codes, Decides, Option, MatchOption}
+use Rattle.lexer.specs.Reading.{Lexes, Ending}
 use Rattle.lexer.specs.Scanning.{Tok, text, nth, BrokenLine, FeedBetween}
 use Rattle.lexer.specs.declared.read.Token.{Token}
 use Rattle.lexer.specs.declared.scan.Tally.{Tally}

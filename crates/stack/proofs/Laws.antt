@@ -1,5 +1,5 @@
 -- One entry more, and some less, of what a stack holds. Assumes nothing.
-use Rattle.std.proofs.Common.{◌≡◌, ℕ, ◌+◌, ◌-◌, ◌<◌, ◌≤◌, min, List, [], ◌∷◌, ◌++◌, reverse, length, get_or, take, drop, set, sym, refl, ap, ◌∙◌, ⊎_elim, arith, length-append, length-take}
+use Rattle.std.proofs.Common.{◌≡◌, ℕ, ◌+◌, ◌-◌, ◌<◌, ◌≤◌, min, List, [], ◌∷◌, ◌++◌, reverse, length, get_or, take, set, sym, ap, ◌∙◌, ⊎_elim, arith, length-append, length-take}
 use mathlib.Core.List.{reverse_aux-append}
 use Rattle.std.proofs.lemmas.List.{take_more, take_more_set, take_all, take-take, take_at, length-reverse, reverse-append, reverse-reverse, nil_from_length}
 use Rattle.std.proofs.lemmas.Bool.{cases_lt}

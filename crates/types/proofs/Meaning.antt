@@ -1,5 +1,5 @@
 -- What the verdict on two kinds says is so of their types. Assumes nothing.
-use Rattle.std.proofs.Common.{◌≡◌, ℕ, zero, suc, ◌<◌, Bool, true, false, cond, ◌&&◌, ◌||◌, ◌⊎◌, List as Listing, [], ◌∷◌, length, get_or, sym, refl, ap, ◌∙◌, subst, subst₂, ⊎_elim, le_of_suc-le-suc, not-suc-le-zero, arith, lit<}
+use Rattle.std.proofs.Common.{◌≡◌, ℕ, zero, suc, ◌<◌, Bool, true, false, cond, ◌&&◌, ◌||◌, List as Listing, [], ◌∷◌, length, get_or, sym, refl, ap, ◌∙◌, subst, subst₂, ⊎_elim, le_of_suc-le-suc, not-suc-le-zero, arith, lit<}
 use Rattle.std.proofs.lemmas.Bool.{and_parts, or_cases, or_parts, both_ways}
 use Rattle.types.specs.declared.kinds.Kind.{Kind}
 use Rattle.types.specs.declared.kinds.Kind.TheVariants.{Number, NumberLiteral, String, StringLiteral, Boolean, True, False, Undefined, Null, Function, Pair, List}

@@ -1,6 +1,6 @@
 use Rattle.std.proofs.Common.{refl, ◌∙◌, arith}
 use Rattle.lexer.proofs.Steps.{onward, given, finished_at, stopped_at}
-use Rattle.lexer.proofs.Verdicts.{long_first, stopped_first}
+use Rattle.lexer.proofs.Verdicts.{long_first}
 use Rattle.lexer.proofs.Tallying.{tallied_none, stopped_told}
 use Rattle.lexer.proofs.scan.scan.Goals as goal
 
