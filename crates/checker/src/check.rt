@@ -41,7 +41,7 @@ fn walk_over<'a, R: Register>(
     types: &mut [TypeEntry],
     findings: &mut [Finding],
 ) -> Walked
-    ensures { Walks sheet.now (meaning names.now) tree.now last (length operators.old) (length frames.old) (length types.old) findings.old result findings.new types.new }
+    ensures { Walks sheet.now (R.Register.meaning names.now) tree.now last (length operators.old) (length frames.old) (length types.old) findings.old result findings.new types.new }
 {
     let mut room = [TypeEntry::Unused; 128];
     let frames = Stack::new(frames);

@@ -26,7 +26,7 @@ fn see_to<R: Register>(
     frame: WalkFrame,
 )
     ensures lent { Lent findings.old store.old findings.new store.new }
-    ensures onward { Onward sheet.now (meaning names.now) tree.now frame (state w.old findings.old store.old) (state w.new findings.new store.new) }
+    ensures onward { Onward sheet.now (R.Register.meaning names.now) tree.now frame (state w.old findings.old store.old) (state w.new findings.new store.new) }
 {
     match frame {
         WalkFrame::Blank => {}
@@ -51,7 +51,7 @@ fn step<R: Register>(
     room: &mut [TypeEntry; 128],
 ) -> bool
     ensures lent { Lent findings.old store.old findings.new store.new }
-    ensures steps { Steps sheet.now (meaning names.now) tree.now (state w.old findings.old store.old) (state w.new findings.new store.new) result }
+    ensures steps { Steps sheet.now (R.Register.meaning names.now) tree.now (state w.old findings.old store.old) (state w.new findings.new store.new) result }
 {
     if store.heavy {
         return false;
@@ -76,7 +76,7 @@ pub fn run_steps<R: Register>(
     room: &mut [TypeEntry; 128],
 )
     ensures lent { Lent findings.old store.old findings.new store.new }
-    ensures runs { Runs sheet.now (meaning names.now) tree.now (state w.old findings.old store.old) (state w.new findings.new store.new) }
+    ensures runs { Runs sheet.now (R.Register.meaning names.now) tree.now (state w.old findings.old store.old) (state w.new findings.new store.new) }
 {
     for i in 0..STEPS {
         if !step(sheet, tree, w, findings, store, names, room) {

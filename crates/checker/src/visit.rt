@@ -78,7 +78,7 @@ fn visit_name<R: Register>(
     len: usize,
 )
     ensures lent { Lent findings.old store.old findings.new store.new }
-    ensures visits { VisitsToken sheet.now (meaning names.now) Name place len (state w.old findings.old store.old) (state w.new findings.new store.new) }
+    ensures visits { VisitsToken sheet.now (R.Register.meaning names.now) Name place len (state w.old findings.old store.old) (state w.new findings.new store.new) }
 {
     let found = names.ask(part_of(sheet, place, len), room);
     ask_bound(findings, place, found);
@@ -115,7 +115,7 @@ fn visit_leaf<R: Register>(
     len: usize,
 )
     ensures lent { Lent findings.old store.old findings.new store.new }
-    ensures visits { VisitsToken sheet.now (meaning names.now) leaf place len (state w.old findings.old store.old) (state w.new findings.new store.new) }
+    ensures visits { VisitsToken sheet.now (R.Register.meaning names.now) leaf place len (state w.old findings.old store.old) (state w.new findings.new store.new) }
 {
     match leaf {
         Leaf::Name => visit_name(sheet, w, findings, store, names, room, place, len),
@@ -135,7 +135,7 @@ pub fn visit_expression<R: Register>(
     i: usize,
 )
     ensures lent { Lent findings.old store.old findings.new store.new }
-    ensures onward { Onward sheet.now (meaning names.now) tree.now (Expression i) (state w.old findings.old store.old) (state w.new findings.new store.new) }
+    ensures onward { Onward sheet.now (R.Register.meaning names.now) tree.now (Expression i) (state w.old findings.old store.old) (state w.new findings.new store.new) }
 {
     match tree_at(tree, i) {
         TreeEntry::Leaf { leaf, place, len } => {
