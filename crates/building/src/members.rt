@@ -2,7 +2,6 @@
 ghost use Rattle.std.specs.Prelude.{◌≡◌, ◌+◌, ◌<◌, ◌≤◌, length, Decides};
 ghost use Rattle.building.specs.Entries.{Adds, AddsAll, Closes, Place, PutIn, SaysIn, Within, entry_rank};
 ghost use Rattle.building.specs.Made.{Kept};
-ghost use Rattle.types.specs.declared.entries.TypeEntry.TheVariants.{Any};
 
 use crate::equality::same;
 use crate::unions::Made;
@@ -123,7 +122,7 @@ pub fn close(types: &[TypeEntry], first: usize, count: usize) -> Made
 }
 
 pub fn is_any(e: TypeEntry) -> bool
-    ensures { Decides result (e ≡ Any) }
+    ensures { Decides result (e ≡ TypeEntry.Any) }
 {
     match e {
         TypeEntry::Any => true,

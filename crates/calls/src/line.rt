@@ -44,7 +44,7 @@ fn byte_of(high: u8, low: u8) -> Option<u8> {
 // The bytes that are written in hexadecimal, or none where the text is not of this form.
 fn bytes_of(heap: Global, hex: &[u8]) -> Result<Option<Vec<u8>>, AllocError> {
     let mut bytes = Vec::with_capacity(heap, hex.len() / 2)?;
-    if hex == b"-" {
+    if hex == b"-".as_slice() {
         return Ok(Some(bytes));
     }
     if hex.is_empty() || hex.len() % 2 != 0 {
@@ -79,7 +79,7 @@ pub fn request_of(heap: Global, line: &[u8]) -> Result<Option<Request>, AllocErr
     let Some(command) = parted(line) else {
         return Ok(None);
     };
-    if command.before != b"check" {
+    if command.before != b"check".as_slice() {
         return Ok(None);
     }
     let Some(operands) = parted(command.after) else {

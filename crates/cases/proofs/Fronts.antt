@@ -1,6 +1,6 @@
 -- Tokens at the front of a text, by tests that compute. Assumes nothing.
 use Rattle.std.proofs.Common.{◌≡◌, ℕ, zero, suc, ◌<◌, ◌≤◌, Bool, true, false, not, ◌&&◌, ◌||◌, eqb, leb, ◌⊎◌, List, [], ◌∷◌, length, get_or, take, sym, refl, ap, subst, inl, inr, ⊎_elim, arith, lit<}
-use Rattle.std.specs.List.{ContainsAt as Has, AllByRecursion as All}
+use Rattle.std.specs.List.{ContainsAt as Has, AllByRecursion}
 use Rattle.std.specs.Str.{bytes_eq}
 use Rattle.std.proofs.ByRecursion.{all-has, has_get_or}
 use Rattle.std.proofs.lemmas.Slice.Eq.{bytes_eq-Decides}
@@ -91,7 +91,7 @@ abbrev pub each : (List ℕ → Bool) → List (List ℕ) → Bool
 each f [] = true
 each f (t ∷ ts) = f t && each f ts
 
-each_all : (f : List ℕ → Bool) (ts : List (List ℕ)) → each f ts ≡ true → All (λ t. f t ≡ true) ts
+each_all : (f : List ℕ → Bool) (ts : List (List ℕ)) → each f ts ≡ true → AllByRecursion (λ t. f t ≡ true) ts
 each_all f [] e = tt
 each_all f (t ∷ ts) e = let p = and_parts _ _ e in (p.0, each_all f ts p.1)
 

@@ -1,7 +1,7 @@
 -- A number of at most four bytes is in range. Assumes nothing.
 use Rattle.std.proofs.Common.{◌≡◌, ℕ, zero, suc, ◌+◌, ◌-◌, ◌*◌, ◌/◌, ◌%◌, ◌^◌, ◌<◌, ◌≤◌, List, ◌++◌, map, length, drop, refl, ap, inl, inr, ⊎_elim, pow-suc, zero-mul, arith, length-append, length-drop}
 use native.Mathlib.Nat.{pow-le-pow_right}
-use Rattle.std.specs.List.{AllByRecursion as All}
+use Rattle.std.specs.List.{AllByRecursion}
 use Rattle.std.proofs.lemmas.Int.Digits.{number_lt}
 use Rattle.std.proofs.ByRecursion.{All-append, All-map, All-weaker}
 use Rattle.std.proofs.lemmas.List.{length-map}
@@ -38,7 +38,7 @@ valued (suc n) up down h u w =
     )
 
 -- digits write less than a one and as many zeros
-read_below : (ds : List ℕ) (n : ℕ) → All DigitByte ds → length ds ≤ n → read ds < 10 ^ n
+read_below : (ds : List ℕ) (n : ℕ) → AllByRecursion DigitByte ds → length ds ≤ n → read ds < 10 ^ n
 read_below ds n h w =
     let under = All-map (λ x. x < 10) (λ b. b - 48) ds (All-weaker DigitByte (λ b. b - 48 < 10) (λ b e. omega (arith, digit_range b e)) ds h) in
     let p : zero < 10 = omega arith in

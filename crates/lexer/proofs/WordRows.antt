@@ -1,6 +1,6 @@
 -- The words in rows by their first letters. Assumes nothing.
 use Rattle.std.proofs.Common.{◌≡◌, ℕ, suc, ◌+◌, ◌-◌, ◌<◌, ◌≤◌, Bool, true, cond, ◌&&◌, ltb, leb, List, [], ◌∷◌, length, get_or, Decides, sym, subst, ⊎_elim, arith}
-use Rattle.std.specs.List.{ContainsAt as Has, AllByRecursion as All}
+use Rattle.std.specs.List.{ContainsAt as Has, AllByRecursion}
 use Rattle.std.proofs.ByRecursion.{All-get_or, all-has, All-weaker}
 use Rattle.std.proofs.lemmas.Bool.{and_parts, cases_Bool, leb-true, ltb-true}
 use Rattle.std.proofs.lemmas.Bool.Decides.{Decides-like}
@@ -32,7 +32,7 @@ stands ts starts t e =
     (find ts t, leb-true _ _ p.0, ltb-true _ _ q.0, found ts t (ltb-true _ _ q.1))
 
 -- a table in rows, by tests that antt computes
-pub rows : (ts : List (List ℕ)) (starts : List ℕ) → leb 27 (length starts) ≡ true → All (λ n. leb n (length ts) ≡ true) starts → All (λ t. has words t ≡ true) ts → All (λ t. in_row ts starts t ≡ true) words → Rows ts starts
+pub rows : (ts : List (List ℕ)) (starts : List ℕ) → leb 27 (length starts) ≡ true → AllByRecursion (λ n. leb n (length ts) ≡ true) starts → AllByRecursion (λ t. has words t ≡ true) ts → AllByRecursion (λ t. in_row ts starts t ≡ true) words → Rows ts starts
 rows ts starts letters within only every = record {
   letters = leb-true _ _ letters;
   within = All-weaker _ _ (λ n. leb-true n (length ts)) starts within;
