@@ -3,7 +3,7 @@ use Rattle.std.proofs.Common.{◌≡◌, ℕ, ◌+◌, ◌<◌, List, sym, ◌�
 use Rattle.std.proofs.lemmas.Bool.{cases_eq, cases_lt}
 use Rattle.types.specs.declared.entries.TypeEntry.{TypeEntry}
 use Rattle.types.specs.Types.{Types}
-use Rattle.types.specs.Table.{entry_at, Is, Run, run_end, run_more}
+use Rattle.types.specs.Table.{Is, Run, run_end, run_more}
 use Rattle.building.specs.Made.{Kept, StandsFor, a_type, a_unit, Filled}
 use Rattle.building.proofs.Written.{kept_held}
 

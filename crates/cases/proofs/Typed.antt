@@ -1,5 +1,5 @@
 -- The expressions of the sheets, their types and their findings. Assumes nothing.
-use Rattle.std.proofs.Common.{◌≡◌, ℕ, true, List, [], ◌∷◌, ◌++◌, Some, None, codes, sym, refl, subst, ap₂, inl, arith, lit<, lit≤}
+use Rattle.std.proofs.Common.{◌≡◌, ℕ, List, [], ◌∷◌, ◌++◌, Some, None, codes, sym, refl, subst, ap₂, inl, arith, lit<, lit≤}
 use Rattle.types.specs.declared.kinds.Kind.TheVariants.{NumberLiteral, StringLiteral}
 use Rattle.types.specs.Values.{Decimal, Text, Value, a_number, the_true}
 use Rattle.types.specs.Types.{Ty, any, number, number_literal, string_literal, boolean, union, no_types, ◌and◌, Belongs, Meet, in_number, in_number_literal, in_string_literal, true_in_boolean, in_true, in_union, to_first}

@@ -1,5 +1,5 @@
 -- From a walk to what a check answers. Assumes nothing.
-use Rattle.std.proofs.Common.{◌≡◌, ℕ, ◌<◌, ◌≤◌, Bool, true, false, List, length, Decides, sym, refl, ap, ◌∙◌, subst, ⊎_elim}
+use Rattle.std.proofs.Common.{◌≡◌, ℕ, ◌<◌, ◌≤◌, Bool, true, false, List, length, Decides, sym, ap, ◌∙◌, subst, ⊎_elim}
 use Rattle.std.proofs.lemmas.Bool.{false≢true, cases_lt}
 use Rattle.types.specs.declared.entries.TypeEntry.{TypeEntry}
 use Rattle.registers.specs.Meaning.{Meaning, Sound}
@@ -10,7 +10,7 @@ use Rattle.checker.specs.declared.stage.Checked.{Checked}
 use Rattle.checker.specs.declared.check.Walked.{Walked}
 use Rattle.checker.specs.Conditions.{AllMet}
 use Rattle.checker.specs.Rules.{Note, AllTyped, conditions, types}
-use Rattle.checker.specs.Findings.{Derivation, weigh}
+use Rattle.checker.specs.Findings.{weigh}
 use Rattle.checker.specs.Orders.{IsInOrder}
 use Rattle.checker.specs.Checks.{CheckedAs}
 use Rattle.checker.specs.Walks.{WalkedAs, walked_heavy, walked_all}

@@ -1,15 +1,14 @@
 -- Types without parts in hand, and the forms of the rules' types. Assumes nothing.
-use Rattle.std.proofs.Common.{◌≡◌, ℕ, ◌+◌, ◌<◌, ◌≤◌, List, [], ◌∷◌, Some, None, Option, sym, refl, subst, inl, arith, lit<}
+use Rattle.std.proofs.Common.{◌≡◌, ℕ, List, Some, None, Option, sym, refl, subst, inl, arith, lit<}
 use Rattle.types.specs.declared.entries.TypeEntry.{TypeEntry}
 use Rattle.types.specs.Values.{Decimal}
-use Rattle.types.specs.Types.{Ty, Types, any, number, number_literal, string, no_types, ◌and◌}
+use Rattle.types.specs.Types.{Ty, any, number, number_literal, string, no_types, ◌and◌}
 use Rattle.types.specs.declared.kinds.Kind.TheVariants.{Number, String}
 use Rattle.types.specs.Kinds.{number_kind, string_kind}
 use Rattle.types.specs.Table.{Is}
 use Rattle.building.specs.declared.unions.Made.{Made}
-use Rattle.building.specs.Weights.{weight}
-use Rattle.building.specs.Unions.{UnionOf, union_more, Brings, brings_none, brings_itself, In, in_first, in_other, Precedes, InOrder, order_none, order_more}
-use Rattle.building.specs.Literals.{Numeral, GivesNumber, LiteralLaws}
+use Rattle.building.specs.Unions.{UnionOf, union_more, brings_none, brings_itself, In, in_first, in_other, Precedes, order_none, order_more}
+use Rattle.building.specs.Literals.{Numeral, GivesNumber}
 use Rattle.building.proofs.Filled.{filled_none}
 use Rattle.building.proofs.OneUnion.{in_none}
 use Rattle.building.proofs.LiteralsMade.{literal_laws}

@@ -1,5 +1,5 @@
 -- How many notes an expression makes, and the notes of the last statement. Assumes nothing.
-use Rattle.std.proofs.Common.{◌≡◌, ℕ, suc, ◌+◌, ◌*◌, ◌≤◌, List, [], ◌∷◌, ◌++◌, length, sym, refl, ap, ◌∙◌, subst, append_assoc, append-nil, arith, length-append}
+use Rattle.std.proofs.Common.{◌≡◌, ℕ, suc, ◌*◌, ◌≤◌, List, [], ◌∷◌, ◌++◌, length, sym, refl, ap, ◌∙◌, subst, append_assoc, append-nil, arith, length-append}
 use Rattle.types.specs.Types.{Ty}
 use Rattle.registers.specs.Meaning.{Meaning}
 use Rattle.parser.specs.declared.symbols.Leaf.{Leaf}

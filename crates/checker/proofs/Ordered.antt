@@ -1,12 +1,12 @@
 -- Entries that hold types are in order. Assumes nothing.
-use Rattle.std.proofs.Common.{◌≡◌, ℕ, ◌-◌, ◌<◌, ◌≤◌, List, length, get_or, sym, refl, subst, arith}
+use Rattle.std.proofs.Common.{◌≡◌, ℕ, ◌-◌, ◌<◌, ◌≤◌, List, length, get_or, sym, subst, arith}
 use Rattle.types.specs.declared.entries.TypeEntry.{TypeEntry}
 use Rattle.types.specs.declared.entries.TypeEntry.TheVariants.{CodeUnit}
 use Rattle.types.specs.Types.{Ty, any}
 use Rattle.types.specs.Table as table
 use Rattle.types.specs.Table.{Is, entry_at, Holds}
 use Rattle.building.specs.Made.{StandsFor, a_type, a_unit}
-use Rattle.checker.specs.Orders.{Orderly, NoUnit, PartsInOrder, HeadsInOrder, IsInOrder, TypesHeld, ToldAt}
+use Rattle.checker.specs.Orders.{Orderly, NoUnit, IsInOrder, ToldAt}
 use Rattle.checker.specs.declared.stage.Checked.{Checked}
 use Rattle.std.proofs.lemmas.List.{get_or_past}
 

@@ -1,5 +1,5 @@
 -- One call, and one call more. Assumes nothing.
-use Rattle.std.proofs.Common.{◌≡◌, ℕ, ◌+◌, ◌<◌, ◌≤◌, ◌≢◌, List, length, get_or, set, Some, None, Ok, Err, Option, Result, sym, refl, ap, ◌∙◌, subst, ⊎_elim, arith}
+use Rattle.std.proofs.Common.{◌≡◌, ℕ, ◌+◌, ◌<◌, ◌≢◌, List, length, get_or, set, None, Ok, Err, Option, Result, sym, refl, ap, ◌∙◌, subst, ⊎_elim, arith}
 use Rattle.std.specs.Result.{result_ok}
 use Rattle.std.proofs.lemmas.List.{get_or_default, get_or-set_same, get_or-set_other}
 use Rattle.std.proofs.lemmas.Bool.{cases_lt}
@@ -14,13 +14,13 @@ use Rattle.parser.specs.Reading.{Sizes, Short, Fault, Reads, Represents, Written
 use Rattle.checker.specs.declared.calls.Call.{Call}
 use Rattle.checker.specs.declared.calls.Call.TheVariants.{Check}
 use Rattle.checker.specs.declared.calls.Answer.{Answer}
-use Rattle.checker.specs.declared.calls.Answer.TheVariants.{Blank, ReadRefused, CheckRefused}
+use Rattle.checker.specs.declared.calls.Answer.TheVariants.{Blank, CheckRefused}
 use Rattle.checker.specs.declared.finding.Finding.{Finding}
 use Rattle.checker.specs.declared.stage.Checked.{Checked}
 use Rattle.checker.specs.Rules.{types}
 use Rattle.checker.specs.Checks as checks
 use Rattle.checker.specs.Checks.{CheckedAs, Refuses, Checks}
-use Rattle.checker.specs.Runs.{Readable, Law, AnswersTo, read_refused, too_heavy, checked, Answers, sheet_of, Left, nothing_left, checked_left, Lawful}
+use Rattle.checker.specs.Runs.{Readable, Law, AnswersTo, too_heavy, checked, Answers, sheet_of, Left, nothing_left, checked_left, Lawful}
 use Rattle.checker.specs.Performing.{Performs, saying}
 
 -- tables of the same sizes

@@ -1,27 +1,20 @@
 -- The first frame of a walk, and what it has told in the end. Assumes nothing.
-use Rattle.std.proofs.Common.{◌≡◌, ℕ, suc, ◌+◌, ◌-◌, ◌*◌, ◌<◌, ◌≤◌, true, false, List, [], ◌∷◌, ◌++◌, length, get_or, sym, refl, ap, ◌∙◌, subst, append-nil, arith}
-use Rattle.stack.specs.declared.Stack.{Stack}
-use Rattle.stack.specs.Items.{held, room}
+use Rattle.std.proofs.Common.{◌≡◌, ℕ, suc, ◌+◌, ◌-◌, ◌<◌, ◌≤◌, false, List, [], ◌∷◌, length, get_or, sym, ◌∙◌, subst, append-nil, arith}
+use Rattle.stack.specs.Items.{held}
 use Rattle.types.specs.Types.{any}
 use Rattle.types.specs.Table.{Is, entry_at}
 use Rattle.types.proofs.Lower.{higher}
 use Rattle.registers.specs.Meaning.{Meaning}
 use Rattle.parser.specs.declared.tree.TreeEntry.{TreeEntry}
-use Rattle.parser.specs.declared.tree.OperatorEntry.{OperatorEntry}
-use Rattle.parser.specs.declared.tree.WalkFrame.{WalkFrame}
 use Rattle.parser.specs.declared.tree.WalkFrame.TheVariants.{Statements}
 use Rattle.parser.specs.Syntax.{Expr, size, sizes}
 use Rattle.parser.specs.Table.{Listed}
-use Rattle.checker.specs.declared.finding.Finding.{Finding}
-use Rattle.checker.specs.declared.first.First.{First}
-use Rattle.checker.specs.declared.store.Store.{Store}
 use Rattle.checker.specs.declared.check.Walked.{Walked}
-use Rattle.checker.specs.Rules.{Note, AllTyped, conditions, types}
-use Rattle.checker.specs.Findings.{Findings, none, blank, FirstOf, weigh}
-use Rattle.checker.specs.Keeping.{Keeps}
-use Rattle.checker.specs.Stores.{entries, Tabled}
+use Rattle.checker.specs.Rules.{Note, AllTyped, types}
+use Rattle.checker.specs.Findings.{none, blank, FirstOf}
+use Rattle.checker.specs.Stores.{entries}
 use Rattle.checker.specs.Owing.{exprs, turns, owes_none, owes_statements, Going, going}
-use Rattle.checker.specs.Standing.{State, Rooms, Tells, Operands, no_operands, Goes, Stands, goes_on, Told, told_heavy, told_all}
+use Rattle.checker.specs.Standing.{State, Rooms, Operands, no_operands, Stands, goes_on, Told, told_heavy, told_all}
 use Rattle.checker.specs.Walks.{WalkedAs, walked_heavy, walked_all}
 use Rattle.checker.proofs.Notes.{few_notes_of_all}
 use Rattle.checker.proofs.Ordered.{is_orderly, is_no_unit, stands_orderly}

@@ -1,15 +1,14 @@
 -- The walk from step to step. Assumes nothing.
-use Rattle.std.proofs.Common.{◌≡◌, ℕ, suc, ◌+◌, ◌-◌, ◌≤◌, true, false, List, [], ◌∷◌, ◌++◌, length, sym, refl, ap, ◌∙◌, subst, append-nil, arith}
+use Rattle.std.proofs.Common.{◌≡◌, ℕ, ◌≤◌, true, false, List, [], ◌∷◌, sym, refl, ap, ◌∙◌, subst, append-nil, arith}
 use Rattle.std.proofs.lemmas.Bool.{false≢true}
 use Rattle.std.proofs.lemmas.List.{nil_from_length}
-use Rattle.stack.specs.declared.Stack.{Stack}
 use Rattle.stack.specs.Items.{held, room}
-use Rattle.registers.specs.Meaning.{Meaning, Sound}
+use Rattle.registers.specs.Meaning.{Meaning}
 use Rattle.parser.specs.declared.tree.TreeEntry.{TreeEntry}
 use Rattle.parser.specs.declared.tree.WalkFrame.{WalkFrame}
 use Rattle.parser.specs.declared.tree.WalkFrame.TheVariants.{Blank}
 use Rattle.checker.specs.Rules.{Note, conditions, types}
-use Rattle.checker.specs.Owing.{Opd, Owes, owes_none, Going, going}
+use Rattle.checker.specs.Owing.{Opd, owes_none, Going, going}
 use Rattle.checker.specs.Standing.{State, Goes, Stands, too_heavy, goes_on, Told, told_heavy, told_all, Operands, Tells}
 use Rattle.checker.specs.Stores.{entries, Tabled}
 use Rattle.checker.proofs.Visiting.{frames_fit}

@@ -1,5 +1,5 @@
 -- What the type table holds while a type is made, and once it is kept. Assumes nothing.
-use Rattle.std.proofs.Common.{◌≡◌, ℕ, ◌+◌, ◌-◌, ◌<◌, ◌≤◌, min, ◌≢◌, ◌⊎◌, List, [], ◌∷◌, ◌++◌, length, get_or, take, drop, set, Some, None, Option, sym, refl, ap, ◌∙◌, subst, inl, inr, ⊎_elim, arith, length-append, length-drop, length-set}
+use Rattle.std.proofs.Common.{◌≡◌, ℕ, ◌+◌, ◌-◌, ◌<◌, ◌≤◌, min, ◌≢◌, ◌⊎◌, List, [], ◌∷◌, ◌++◌, length, get_or, take, drop, set, Some, None, Option, sym, ap, ◌∙◌, subst, inl, inr, ⊎_elim, arith, length-append, length-drop, length-set}
 use borrow.Rule.Slice.PartMut.{post_of, Post-is}
 use Rattle.std.proofs.lemmas.List.{get_or_append_left, get_or-append_right, get_or-take, get_or-drop, get_or-set_same, get_or-set_other, get_or_push, length_push, length-take-le}
 use Rattle.std.proofs.lemmas.Bool.{cases_lt}
@@ -9,8 +9,7 @@ use Rattle.types.specs.Types.{Ty, any, string_literal, no_types, ◌and◌}
 use Rattle.types.specs.Table.{Is, entry_at}
 use Rattle.types.proofs.Lower.{lower_only, higher}
 use Rattle.building.specs.declared.unions.Made.{Made}
-use Rattle.building.specs.Forms.{InForm}
-use Rattle.building.specs.Made.{Filled, Kept, TypeMade, TypeOrNone, UnionOrNone, UnionMade, CopyMade, CopyOrNone}
+use Rattle.building.specs.Made.{Filled, Kept, TypeMade, TypeOrNone, UnionOrNone, CopyOrNone}
 use Rattle.building.specs.Unions.{UnionOf}
 use Rattle.building.specs.Weights.{weight}
 use Rattle.building.proofs.Filled.{filled_kept, filled_joined}

@@ -1,6 +1,5 @@
 -- One lemma for each entry of the tree that the walk visits. Assumes nothing.
-use Rattle.std.proofs.Common.{◌≡◌, ℕ, suc, ◌+◌, ◌-◌, ◌<◌, ◌≤◌, List, [], ◌∷◌, ◌++◌, length, sym, refl, ap, ◌∙◌, subst, append_assoc, append-nil, arith, length-append}
-use Rattle.stack.specs.declared.Stack.{Stack}
+use Rattle.std.proofs.Common.{◌≡◌, ℕ, suc, ◌+◌, ◌≤◌, List, [], ◌∷◌, ◌++◌, length, sym, refl, ap, ◌∙◌, subst, append_assoc, arith, length-append}
 use Rattle.stack.specs.Items.{held, room}
 use Rattle.types.specs.Types.{Ty}
 use Rattle.registers.specs.Meaning.{Meaning, Sound}
@@ -20,7 +19,7 @@ use Rattle.checker.specs.declared.first.First.{First}
 use Rattle.checker.specs.declared.store.Store.{Store}
 use Rattle.parser.specs.declared.symbols.Leaf.TheVariants.{Name}
 use Rattle.checker.specs.Conditions.{Condition, bound}
-use Rattle.checker.specs.Rules.{part, type_of, LeafRule, a_number, a_string, a_true, a_false, a_null, a_name, Note, has, ends, Typed, typed_leaf, typed_unary, typed_binary, typed_choice, AllTyped, typed_none, typed_more}
+use Rattle.checker.specs.Rules.{part, type_of, LeafRule, a_number, a_string, a_true, a_false, a_null, a_name, Note, ends, Typed, typed_leaf, typed_unary, typed_binary, typed_choice, AllTyped, typed_none}
 use Rattle.checker.specs.Stores.{entries}
 use Rattle.checker.specs.Owing.{Opd, exprs, turns, Owes, owes_none, owes_statements, owes_expression, owes_unary, owes_binary, owes_choice, Going, going}
 use Rattle.checker.specs.Standing.{Operands, Pushed, State, state, Goes}

@@ -1,6 +1,5 @@
 -- One lemma for each step of the walk. Assumes nothing.
-use Rattle.std.proofs.Common.{◌≡◌, ℕ, suc, ◌+◌, ◌-◌, ◌<◌, ◌≤◌, true, false, List, [], ◌∷◌, ◌++◌, length, Some, None, Option, sym, refl, ap, ◌∙◌, subst, append_assoc, append-nil, arith, length-append}
-use Rattle.stack.specs.declared.Stack.{Stack}
+use Rattle.std.proofs.Common.{◌≡◌, ℕ, suc, ◌+◌, ◌<◌, ◌≤◌, true, false, List, [], ◌∷◌, ◌++◌, length, Some, Option, sym, refl, ap, ◌∙◌, subst, append_assoc, append-nil, arith, length-append}
 use Rattle.stack.specs.Items.{held, room}
 use Rattle.types.specs.declared.entries.TypeEntry.{TypeEntry}
 use Rattle.types.specs.Types.{Ty, boolean, no_types, ◌and◌}
@@ -19,18 +18,15 @@ use Rattle.parser.specs.declared.tree.TreeEntry.{TreeEntry}
 use Rattle.parser.specs.declared.tree.OperatorEntry.{OperatorEntry}
 use Rattle.parser.specs.declared.tree.OperatorEntry.TheVariants.{Operand}
 use Rattle.parser.specs.declared.tree.WalkFrame.{WalkFrame}
-use Rattle.parser.specs.declared.tree.WalkFrame.TheVariants.{Statements, Expression, Unary, Binary, Choice}
-use Rattle.checker.specs.declared.finding.Finding.{Finding}
-use Rattle.checker.specs.declared.first.First.{First}
+use Rattle.parser.specs.declared.tree.WalkFrame.TheVariants.{Unary, Binary, Choice}
 use Rattle.checker.specs.declared.store.Store.{Store}
-use Rattle.checker.specs.declared.walk.Walk.{Walk}
 use Rattle.checker.specs.declared.walk.Operand.{Operand as Popped}
 use Rattle.checker.specs.Conditions.{Condition, fits}
-use Rattle.checker.specs.Rules.{PrefixRule, InfixRule, Note, asks, has, ends, conditions, types}
+use Rattle.checker.specs.Rules.{PrefixRule, InfixRule, Note, has, ends, conditions, types}
 use Rattle.checker.specs.Findings.{weigh}
 use Rattle.checker.specs.Stores.{entries, Tabled, InHand, Ready, KeptType}
 use Rattle.checker.specs.Owing.{Opd, Owes, owes_unary, owes_binary, owes_choice, Going, going}
-use Rattle.checker.specs.Standing.{Takes, Operands, no_operands, one_operand, State, state, Tells, Asks, Rooms, Goes, Ending, Stands, too_heavy, goes_on}
+use Rattle.checker.specs.Standing.{Takes, Operands, no_operands, one_operand, State, Tells, Asks, Rooms, Goes, Ending, Stands, too_heavy}
 use Rattle.checker.proofs.Logging.{conditions_append, types_append, asked, ends_asked, asked_conditions, asked_types, short}
 use Rattle.checker.proofs.Stored.{tabled_ready, weigh_append}
 use Rattle.checker.proofs.Typable.{prefix_form, infix_form, two_forms}

@@ -8,7 +8,7 @@ use Rattle.checker.specs.declared.finding.Kind.{Kind}
 use Rattle.checker.specs.declared.finding.Kind.TheVariants.{Blank, Clash, UnknownName}
 use Rattle.checker.specs.declared.finding.Finding.{Finding}
 use Rattle.checker.specs.Conditions.{Condition, fits, compares, bound, Met, AllMet}
-use Rattle.checker.specs.Rules.{Note, AllTyped, conditions, types}
+use Rattle.checker.specs.Rules.{Note, AllTyped, conditions}
 
 -- the number of each kind of finding
 abbrev pub number_of : Kind → ℕ

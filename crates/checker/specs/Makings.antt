@@ -1,5 +1,5 @@
 -- What the functions that make the types of expressions say. No public contract cites it. Assumes nothing.
-use Rattle.std.specs.Prelude.{◌≡◌, ℕ, ◌≤◌, List, length, Option, ◌≢◌}
+use Rattle.std.specs.Prelude.{◌≡◌, ℕ, List, length, Option, ◌≢◌}
 use Rattle.types.specs.declared.entries.TypeEntry.{TypeEntry}
 use Rattle.types.specs.Values.{Decimal, Text}
 use Rattle.types.specs.Types.{Ty, number_literal, string_literal, true_literal, false_literal, null}

@@ -1,5 +1,5 @@
 -- The rules: which type an expression has, and which conditions it sets. Assumes nothing.
-use Rattle.std.specs.Prelude.{◌≡◌, ℕ, List, [], ◌∷◌, ◌++◌, take, drop, Some, None, Option}
+use Rattle.std.specs.Prelude.{ℕ, List, [], ◌∷◌, ◌++◌, take, drop, Some, None, Option}
 use Rattle.types.specs.Values.{Decimal, Text}
 use Rattle.types.specs.Types.{Ty, any, number, number_literal, string, string_literal, boolean, true_literal, false_literal, null, union, no_types, ◌and◌}
 use Rattle.building.specs.Unions.{UnionOf}

@@ -1,5 +1,5 @@
 -- The law over whole runs: what each call answers. Assumes nothing.
-use Rattle.std.specs.Prelude.{◌≡◌, ℕ, ◌+◌, ◌<◌, ◌≤◌, min, List, length, Some, None, Ok, Err, Option, Result, slice_index_or}
+use Rattle.std.specs.Prelude.{◌≡◌, ℕ, ◌+◌, ◌<◌, ◌≤◌, min, List, length, Some, None, Option, slice_index_or}
 use Rattle.lexer.specs.Faults.{FirstFault}
 use Rattle.lexer.specs.declared.reasons.Reason.{Reason}
 use Rattle.lexer.specs.declared.reasons.Reason.TheVariants.{HeavySheet}

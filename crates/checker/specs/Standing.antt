@@ -1,5 +1,5 @@
 -- How the tables of a check stand for what it owes. No public contract cites it. Assumes nothing.
-use Rattle.std.specs.Prelude.{◌≡◌, ℕ, suc, ◌+◌, ◌<◌, ◌≤◌, Bool, true, false, List, [], ◌∷◌, ◌++◌, length, Some, None, Option}
+use Rattle.std.specs.Prelude.{◌≡◌, ℕ, suc, ◌+◌, ◌<◌, ◌≤◌, Bool, true, false, List, [], ◌∷◌, ◌++◌, length, Option}
 use Rattle.stack.specs.declared.Stack.{Stack}
 use Rattle.stack.specs.Items.{held, room}
 use Rattle.types.specs.declared.entries.TypeEntry.{TypeEntry}
@@ -9,8 +9,6 @@ use Rattle.building.specs.declared.unions.Made.{Made}
 use Rattle.building.specs.Forms.{InForm}
 use Rattle.registers.specs.Meaning.{Meaning, Sound}
 use Rattle.parser.specs.declared.symbols.Leaf.{Leaf}
-use Rattle.parser.specs.declared.symbols.Prefix.{Prefix}
-use Rattle.parser.specs.declared.symbols.Operator.{Operator}
 use Rattle.parser.specs.declared.tree.TreeEntry.{TreeEntry}
 use Rattle.parser.specs.declared.tree.OperatorEntry.{OperatorEntry}
 use Rattle.parser.specs.declared.tree.OperatorEntry.TheVariants.{Operand}
@@ -24,10 +22,10 @@ use Rattle.checker.specs.declared.store.Store.{Store}
 use Rattle.checker.specs.declared.walk.Walk.{Walk}
 use Rattle.checker.specs.declared.walk.Operand.{Operand as Popped}
 use Rattle.checker.specs.Conditions.{Condition}
-use Rattle.checker.specs.Rules.{Note, asks, has, conditions, types, PrefixRule, InfixRule, LeafRule}
+use Rattle.checker.specs.Rules.{Note, has, conditions, types}
 use Rattle.checker.specs.Findings.{Findings, blank, weigh}
 use Rattle.checker.specs.Keeping.{Keeps}
-use Rattle.checker.specs.Stores.{entries, Tabled, InHand, Ready}
+use Rattle.checker.specs.Stores.{entries, Tabled, InHand}
 use Rattle.checker.specs.Owing.{Opd, Going}
 
 -- v is the operand that was on top

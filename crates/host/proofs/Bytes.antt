@@ -1,10 +1,9 @@
 -- Bytes that are replaced one run after the other. Assumes nothing.
-use Rattle.std.proofs.Common.{◌≡◌, ℕ, suc, ◌+◌, ◌-◌, ◌*◌, ◌<◌, ◌≤◌, List, [], ◌∷◌, ◌++◌, length, get_or, take, drop, sym, refl, ap, ◌∙◌, subst, append_assoc, add-zero, add_assoc, arith, length-append, take-append-drop}
+use Rattle.std.proofs.Common.{◌≡◌, ℕ, ◌+◌, ◌-◌, ◌*◌, ◌<◌, ◌≤◌, List, [], ◌∷◌, ◌++◌, length, get_or, take, drop, sym, refl, ap, ◌∙◌, append_assoc, add-zero, add_assoc, arith, length-append, take-append-drop}
 use borrow.Rule.Slice.PartMut.{put_mid, post_of, Post-is}
 use Rattle.std.proofs.lemmas.List.{take_at, drop_at, drop-drop, length-take-le, take_more}
 use Rattle.checker.specs.declared.finding.Finding.{Finding}
-use Rattle.checker.specs.Findings.{blank}
-use Rattle.host.specs.Layout.{word, row, rows, replaced}
+use Rattle.host.specs.Layout.{row, rows, replaced}
 
 -- two runs in a row are one
 pub joined : (old : List ℕ) (at : ℕ) (a b : List ℕ) (m : ℕ) → m ≡ at + length a → m ≤ length old → replaced (replaced old at a) m b ≡ replaced old at (a ++ b)

@@ -1,5 +1,5 @@
 -- What is told of a sheet, from what reading and checking answer. Assumes nothing.
-use Rattle.std.proofs.Common.{◌≡◌, ℕ, ◌-◌, ◌/◌, ◌<◌, ◌≤◌, min, List, ◌++◌, length, get_or, take, Ok, sym, refl, ap, ◌∙◌, subst, arith}
+use Rattle.std.proofs.Common.{◌≡◌, ℕ, ◌-◌, ◌/◌, ◌<◌, ◌≤◌, min, List, ◌++◌, length, take, Ok, sym, ap, ◌∙◌, subst, arith}
 use Rattle.std.proofs.lemmas.List.{ext_get_or, get_or-take, length-take-le}
 use Rattle.lexer.specs.Faults.{FirstFault}
 use Rattle.lexer.specs.Refusals.{number_of}
@@ -21,7 +21,7 @@ use Rattle.checker.proofs.Logging.{short}
 use Rattle.checker.proofs.Notes.{few_notes_of_all}
 use Rattle.host.specs.Layout.{word, rows, replaced, fitting}
 use Rattle.checker.specs.Runs.{Readable}
-use Rattle.host.specs.Answers.{tables, Refused, unread, too_heavy, ReadAnswers, is_program, not_read, CheckAnswers, is_checked, is_refused}
+use Rattle.host.specs.Answers.{tables, Refused, too_heavy, ReadAnswers, is_program, not_read, CheckAnswers, is_checked, is_refused}
 use Rattle.host.specs.Outcomes.{CheckedSo}
 
 -- tables of the same sizes

@@ -1,5 +1,5 @@
 -- No public contract cites it. The empty register and the library have only bindings that a register may have. Assumes nothing.
-use Rattle.std.specs.Prelude.{◌≡◌, ℕ, Bool, true, false, cond, T, List, [], ◌∷◌, ◌++◌, map, Some, None, Option, nat_le}
+use Rattle.std.specs.Prelude.{◌≡◌, ℕ, Bool, true, false, cond, T, List, [], ◌∷◌, ◌++◌, map, Some, Option, nat_le}
 use Rattle.std.proofs.Common.{subst, arith, lit≤}
 use Rattle.std.specs.Str.{bytes_eq}
 use Rattle.types.specs.Types.{Ty, function, no_types, ◌and◌}

@@ -1,5 +1,3 @@
-use Rattle.std.proofs.Common.{ℕ, ◌<◌}
-use Rattle.types.specs.Table.{entry_at}
 use Rattle.checker.specs.Orders.{PartsInOrder}
 use Rattle.checker.proofs.asked.parts_in_order.Given as goal
 

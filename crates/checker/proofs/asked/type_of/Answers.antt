@@ -1,4 +1,4 @@
-use Rattle.std.proofs.Common.{◌-◌, sym, refl, subst, arith}
+use Rattle.std.proofs.Common.{sym, subst, arith}
 use Rattle.checker.specs.Orders.{PartsInOrder, HeadsInOrder, short_table, no_expression, damaged}
 use Rattle.checker.proofs.Checking.{refuted}
 use Rattle.checker.proofs.Ordered.{told_at}

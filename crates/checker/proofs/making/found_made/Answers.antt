@@ -1,6 +1,5 @@
-use Rattle.std.proofs.Common.{◌≡◌, ℕ, ◌≤◌, sym, refl, ◌∙◌, arith}
+use Rattle.std.proofs.Common.{◌≡◌, ℕ, refl, arith}
 use Rattle.types.specs.Table.{is_any}
-use Rattle.registers.specs.declared.found.Found.{Found}
 use Rattle.checker.proofs.Madely.{plain_as, told_any, told_typed}
 use Rattle.checker.proofs.making.found_made.Goals as goal
 

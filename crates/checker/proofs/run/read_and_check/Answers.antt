@@ -1,4 +1,3 @@
-use Rattle.std.proofs.Common.{refl}
 use Rattle.checker.specs.Runs.{read_refused}
 use Rattle.checker.proofs.Running.{same_sizes, refused_heavy, checked_ok}
 use Rattle.checker.proofs.run.read_and_check.Goals as goal

@@ -1,5 +1,4 @@
-use Rattle.std.proofs.Common.{sym, refl, subst, arith}
-use Rattle.checker.specs.Runs.{Lawful}
+use Rattle.std.proofs.Common.{arith}
 use Rattle.checker.proofs.Running.{same_sizes, performs_as, lawful_none, lawful_more, lawful_all}
 use Rattle.checker.proofs.run.run.Goals as goal
 

@@ -1,5 +1,4 @@
-use Rattle.std.proofs.Common.{◌∷◌, refl, subst}
-use Rattle.checker.specs.Standing.{Goes}
+use Rattle.std.proofs.Common.{refl}
 use Rattle.checker.proofs.Stepping.{not_blank, as_frame}
 use Rattle.checker.proofs.steps.see_to.Goals as goal
 

@@ -1,5 +1,5 @@
-use Rattle.std.proofs.Common.{refl, inl, inr, arith}
-use Rattle.checker.proofs.Stored.{kept_type, too_heavy}
+use Rattle.std.proofs.Common.{refl, arith}
+use Rattle.checker.proofs.Stored.{kept_type}
 use Rattle.checker.proofs.store.keep.Goals as goal
 
 pub returns : goal.returns

@@ -1,4 +1,4 @@
-use Rattle.std.proofs.Common.{sym, refl, ◌∙◌, subst}
+use Rattle.std.proofs.Common.{refl, ◌∙◌, subst}
 use Rattle.registers.specs.Telling.{Tells}
 use Rattle.checker.specs.Rules.{part}
 use Rattle.checker.proofs.Logging.{asks_as}

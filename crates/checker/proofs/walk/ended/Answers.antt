@@ -1,6 +1,6 @@
-use Rattle.std.proofs.Common.{Some, sym, refl, subst, arith}
+use Rattle.std.proofs.Common.{refl, subst, arith}
 use Rattle.checker.specs.Standing.{goes_on}
-use Rattle.checker.specs.Stores.{InHand, KeptOrHeavy}
+use Rattle.checker.specs.Stores.{InHand}
 use Rattle.checker.proofs.Walking.{ended_heavy, ended_kept}
 use Rattle.checker.proofs.walk.ended.Goals as goal
 

@@ -1,4 +1,4 @@
-use Rattle.std.proofs.Common.{◌≡◌, ℕ, ◌+◌, ◌*◌, get_or, take, ap, ◌∙◌, subst, arith}
+use Rattle.std.proofs.Common.{◌≡◌, ◌+◌, ◌*◌, get_or, take, ap, ◌∙◌, subst, arith}
 use Rattle.checker.specs.Findings.{blank}
 use Rattle.host.specs.Layout.{row, rows, replaced}
 use Rattle.host.proofs.Bytes.{next_row, nothing_new}

@@ -1,4 +1,4 @@
-use Rattle.std.proofs.Common.{◌≤◌, refl, arith}
+use Rattle.std.proofs.Common.{refl, arith}
 use Rattle.std.proofs.lemmas.List.{length_push}
 use Rattle.checker.proofs.Keeping.{keeps_full, keeps_more}
 use Rattle.checker.proofs.first.First.add.Goals as goal
