@@ -1,4 +1,4 @@
-/* Mughlepi: checks competition sheets. Link with libhost.a and the toolchain's librattle_c.a.
+/* Mughlepi: checks competition sheets. Link with libhost.a, which tests/host/run builds.
  *
  * A sheet is a sequence of bytes, an answer is a number and some bytes of `out`. Every number in `out` has four bytes, the
  * lowest first. Places are byte offsets in the sheet, from 0. The numbers of the refusals stand in docs/REFUSALS.md.

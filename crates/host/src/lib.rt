@@ -45,8 +45,7 @@ fn checked(out: &mut [u8], c: &Checked, findings: &[Finding]) -> u32
 
 // Reads a sheet. The answer is 0 where it is a program, and nothing is written then; else it is the number of the refusal,
 // and the first four bytes of `out` are its place. Where `out` has under 8 bytes the answer is 1, and nothing is written.
-#[unsafe(no_mangle)]
-pub extern "C" fn sheet_read(sheet: &[u8], out: &mut [u8]) -> u32
+pub fn sheet_read(sheet: &[u8], out: &mut [u8]) -> u32
     ensures { ReadAnswers sheet.now out.old out.new result }
 {
     if out.len() < 8 {
@@ -66,8 +65,7 @@ pub extern "C" fn sheet_read(sheet: &[u8], out: &mut [u8]) -> u32
 // count of its findings, the next four that of its expressions, and the first findings follow, as many as have room, each as
 // its kind and its place. Else the answer is the number of the refusal, and the first four bytes of `out` are its place. The
 // other bytes stay as they were. Where `out` has under 8 bytes the answer is 1, and nothing is written.
-#[unsafe(no_mangle)]
-pub extern "C" fn sheet_check(sheet: &[u8], out: &mut [u8]) -> u32
+pub fn sheet_check(sheet: &[u8], out: &mut [u8]) -> u32
     ensures { CheckAnswers sheet.now out.old out.new result }
 {
     if out.len() < 8 {
