@@ -5,6 +5,5 @@ pub mod Tables
 pub mod Reductions
 pub mod Arms
 pub mod Whole
-pub mod Marks
 pub mod Lexing
 pub mod Faults
