@@ -71,8 +71,8 @@ step_prefix {b = b} {ps = ps} op t is other within held h =
 
 -- after an operand
 
-pub step_close : {sheet : ℕ} {table : List TreeEntry} {fs gs : List OperatorEntry} {x : OperatorEntry} {o : Operand} {last k : ℕ} {b : List Expr} {ps : List Part} {e : Expr} (t : Token) → t.symbol ≡ Close → x ≡ Bracket → fs ≡ x ∷ gs → Ended sheet table fs o last k b ps e → Next sheet table gs (record { used = o.used; last = last; position = After o.at }) (after k e) b ps t
-step_close {sheet} {table} {fs} {gs} {x} {o} {last} {k} {b} {ps} {e} t is top held h = go (subst (λ f. Frames sheet table o.used f ps) (held ∙ ap (λ y. y ∷ gs) top) h.before.frames) h.before.ready
+pub step_close : {sheet : ℕ} {table : List TreeEntry} {fs gs : List OperatorEntry} {o : Operand} {last k : ℕ} {b : List Expr} {ps : List Part} {e : Expr} (t : Token) → t.symbol ≡ Close → fs ≡ Bracket ∷ gs → Ended sheet table fs o last k b ps e → Next sheet table gs (record { used = o.used; last = last; position = After o.at }) (after k e) b ps t
+step_close {sheet} {table} {fs} {gs} {o} {last} {k} {b} {ps} {e} t is held h = go (subst (λ f. Frames sheet table o.used f ps) held h.before.frames) h.before.ready
   where
     go : {ps : List Part} → Frames sheet table o.used (Bracket ∷ gs) ps → Ready ps → Next sheet table gs (record { used = o.used; last = last; position = After o.at }) (after k e) b ps t
     go (a_bracket {ps = ps} f) r = record {
@@ -125,22 +125,15 @@ not_end {sheet} {table} {fs} {used} s other held ps f = go (subst (λ f. Frames 
     go : {ps : List Part} → Frames sheet table used [] ps → Closer ps s → ⊥
     go no_frame = other
 
-pub not_shut : {sheet : ℕ} {table : List TreeEntry} {fs gs : List OperatorEntry} {x : OperatorEntry} {used : ℕ} (s : Symbol) → (s ≡ Close → ⊥) → x ≡ Bracket → fs ≡ x ∷ gs → (ps : List Part) → Frames sheet table used fs ps → Closer ps s → ⊥
-not_shut {sheet} {table} {fs} {gs} {x} {used} s other top held ps f = go (subst (λ f. Frames sheet table used f ps) (held ∙ ap (λ y. y ∷ gs) top) f)
+pub not_shut : {sheet : ℕ} {table : List TreeEntry} {fs gs : List OperatorEntry} {used : ℕ} (s : Symbol) → (s ≡ Close → ⊥) → fs ≡ Bracket ∷ gs → (ps : List Part) → Frames sheet table used fs ps → Closer ps s → ⊥
+not_shut {sheet} {table} {fs} {gs} {used} s other held ps f = go (subst (λ f. Frames sheet table used f ps) held f)
   where
     go : {ps : List Part} → Frames sheet table used (Bracket ∷ gs) ps → Closer ps s → ⊥
     go (a_bracket f) = other
 
-pub not_chosen : {sheet : ℕ} {table : List TreeEntry} {gs : List OperatorEntry} {l used : ℕ} (s : Symbol) → (s ≡ Colon → ⊥) → (ps : List Part) → Frames sheet table used (Consequent l ∷ gs) ps → Closer ps s → ⊥
-not_chosen s other _ (a_consequent p t fr) = other
-
--- the top of the stack, by what it was found to be
-pub retop : {sheet : ℕ} {table : List TreeEntry} {fs gs : List OperatorEntry} {x y : OperatorEntry} {o : Operand} {last k : ℕ} {b : List Expr} {ps : List Part} {e : Expr} → fs ≡ x ∷ gs → x ≡ y → Ended sheet table fs o last k b ps e → Ended sheet table (y ∷ gs) o last k b ps e
-retop {sheet} {table} {gs = gs} {o = o} {last} {k} {b} {ps} {e} held is h = subst (λ f. Ended sheet table f o last k b ps e) (held ∙ ap (λ y. y ∷ gs) is) h
-
 -- the branches of a choice
-pub step_colon : {sheet : ℕ} {table : List TreeEntry} {gs hs : List OperatorEntry} {l : ℕ} {o : Operand} {last k : ℕ} {b : List Expr} {ps : List Part} {e : Expr} (t : Token) → t.symbol ≡ Colon → hs ≡ Otherwise l o.at ∷ gs → Ended sheet table (Consequent l ∷ gs) o last k b ps e → Next sheet table hs (record { used = o.used; last = last; position = Want }) (after k e) b ps t
-step_colon {sheet} {table} {gs} {hs} {l} {o} {last} {k} {b} {e = e} t is held h = go h.before.frames h.before.ready
+pub step_colon : {sheet : ℕ} {table : List TreeEntry} {fs gs hs : List OperatorEntry} {l : ℕ} {o : Operand} {last k : ℕ} {b : List Expr} {ps : List Part} {e : Expr} (t : Token) → t.symbol ≡ Colon → fs ≡ Consequent l ∷ gs → hs ≡ Otherwise l o.at ∷ gs → Ended sheet table fs o last k b ps e → Next sheet table hs (record { used = o.used; last = last; position = Want }) (after k e) b ps t
+step_colon {sheet} {table} {fs} {gs} {hs} {l} {o} {last} {k} {b} {ps} {e = e} t is top held h = go (subst (λ f. Frames sheet table o.used f ps) top h.before.frames) h.before.ready
   where
     go : {ps : List Part} → Frames sheet table o.used (Consequent l ∷ gs) ps → Ready ps → Next sheet table hs (record { used = o.used; last = last; position = Want }) (after k e) b ps t
     go (a_consequent {ps = ps} {a = a} p s fr) r =
@@ -162,18 +155,18 @@ lower_wants (inr l) (a_prefix p f) = some_none (l 0)
 lower_wants (inl l) (an_otherwise p q s s' f) = omega arith
 lower_wants (inr l) (an_otherwise p q s s' f) = some_none (l 0)
 
--- no other part is on top
-pub not_right : {A : Type 0} {sheet : ℕ} {table : List TreeEntry} {used : ℕ} {ps : List Part} (x : OperatorEntry) (fs gs : List OperatorEntry) → fs ≡ x ∷ gs → (x ≡ Bracket → ⊥) → ((l : ℕ) → x ≡ Consequent l → ⊥) → Lower 0 fs → Frames sheet table used fs ps → A
-not_right {sheet = sheet} {table} {used} {ps} x fs gs held f g l fr = absurd (go f g (subst (λ q. Lower 0 q) held l) (subst (λ q. Frames sheet table used q ps) held fr))
+-- the part on top does not end with its operand, and what would close it is not here
+pub not_met : {sheet : ℕ} {table : List TreeEntry} {fs gs : List OperatorEntry} {used : ℕ} (x : OperatorEntry) (s : Symbol) → (x ≡ Bracket → ⊥) → ((l : ℕ) → x ≡ Consequent l → s ≡ Colon → ⊥) → Lower 0 fs → fs ≡ x ∷ gs → (ps : List Part) → Frames sheet table used fs ps → Closer ps s → ⊥
+not_met {sheet} {table} {fs} {gs} {used} x s f g l held ps fr = go f g (subst (λ q. Lower 0 q) held l) (subst (λ q. Frames sheet table used q ps) held fr)
   where
-    go : {x : OperatorEntry} {ps : List Part} → (x ≡ Bracket → ⊥) → ((l : ℕ) → x ≡ Consequent l → ⊥) → Lower 0 (x ∷ gs) → Frames sheet table used (x ∷ gs) ps → ⊥
-    go f g l (a_bracket fr) = f refl
+    go : {x : OperatorEntry} {ps : List Part} → (x ≡ Bracket → ⊥) → ((l : ℕ) → x ≡ Consequent l → s ≡ Colon → ⊥) → Lower 0 (x ∷ gs) → Frames sheet table used (x ∷ gs) ps → Closer ps s → ⊥
+    go f g l (a_bracket fr) = absurd (f refl)
     go f g l (a_consequent p s fr) = g _ refl
-    go f g (inl l) (an_infix p s fr) = omega arith
+    go f g (inl l) (an_infix p s fr) = absurd (omega arith)
     go f g (inr l) (an_infix p s fr) = some_none (l 0)
-    go f g (inl l) (a_prefix p fr) = omega arith
+    go f g (inl l) (a_prefix p fr) = absurd (omega arith)
     go f g (inr l) (a_prefix p fr) = some_none (l 0)
-    go f g (inl l) (an_otherwise p q s s' fr) = omega arith
+    go f g (inl l) (an_otherwise p q s s' fr) = absurd (omega arith)
     go f g (inr l) (an_otherwise p q s s' fr) = some_none (l 0)
 
 pub fits_atom : (t : Token) → Fits t atom
