@@ -1,5 +1,5 @@
 pub mod Corner
-pub mod Sizes
+pub mod Counting
 pub mod Turns
 pub mod Tables
 pub mod Reductions

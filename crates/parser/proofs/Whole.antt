@@ -17,7 +17,7 @@ use Rattle.parser.specs.Table.{Listed, no_more}
 use Rattle.parser.specs.Machine.{Ready, Part, State, start, want, after, Completes, Dead}
 use Rattle.parser.specs.Holds.{Before, Frames, no_frame, Ended, Stage, at_start, at_want, at_after, Holds, Next, Sofar}
 use Rattle.parser.specs.Reading.{token_of, tokens, Represents, NotProgram, at_end}
-use Rattle.parser.proofs.Sizes.{program_size}
+use Rattle.parser.proofs.Counting.{program_size}
 use Rattle.parser.proofs.Turns.{wants_atom, begin, finish, finished, want_more, after_more, Alive, want_alive, after_alive}
 
 module _ (sheet : ℕ) (old table : List TreeEntry) (fs gs : List OperatorEntry) (t : Token) (p : Progress) (r : Option Progress) (s : State) (b : List Expr) (ps : List Part) (h : Holds sheet old fs p s b ps) where
