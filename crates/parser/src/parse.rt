@@ -62,7 +62,7 @@ pub fn parse(
     let mut stack = Stack::new(operators);
     let mut p = Progress {
         used: 0,
-        last: 0,
+        last: None,
         position: Position::Start,
     };
     while let Some(t) = reader.next()? {

@@ -67,7 +67,7 @@ fn close(
     table: &mut [TreeEntry],
     stack: &mut Stack<OperatorEntry>,
     o: Operand,
-    last: usize,
+    last: Option<usize>,
     t: Token,
 ) -> Option<Progress>
     requires fits { o.used + length (held stack.old) < length table.old }
@@ -86,7 +86,7 @@ fn close(
             };
             Some(Progress {
                 used: o.used + 1,
-                last: o.used + 1,
+                last: Some(o.used),
                 position: Position::Start,
             })
         }
@@ -108,7 +108,7 @@ fn close(
 }
 
 // The part that goes on from an operand.
-fn open(stack: &mut Stack<OperatorEntry>, o: Operand, last: usize, f: Follow) -> Progress
+fn open(stack: &mut Stack<OperatorEntry>, o: Operand, last: Option<usize>, f: Follow) -> Progress
     requires room { length (held stack.old) < room stack.old }
     ensures turns { (sheet : ℕ) (table : List AnyEntry) (b : List Expr) (ps : List Part) (k : ℕ) (e : Expr) (t : AnyToken) → follow t.symbol ≡ Some f → wants ps ≤ level f → left f ≤ k → Ended sheet table (held stack.old) o last k b ps e → Next sheet table (held stack.new) result (after k e) b ps t }
     ensures uses { result.used + length (held stack.new) ≡ o.used + length (held stack.old) + 1 }

@@ -31,9 +31,9 @@ pub enum TreeEntry {
         then: usize,
         other: usize,
     },
-    // an expression and a semicolon; `before` is the index after that of the statement before it, or 0
+    // an expression and a semicolon; `before` is the index of the statement before it, if there is one
     Statement {
-        before: usize,
+        before: Option<usize>,
         expression: usize,
     },
 }
@@ -98,8 +98,8 @@ impl OperatorEntry {
 #[derive(Clone, Copy)]
 pub enum WalkFrame {
     Blank,
-    // the statements up to the one before this index
-    Statements(usize),
+    // the statement at an index, if there is one, and those before it
+    Statements(Option<usize>),
     // the expression at an index
     Expression(usize),
     // an operator, with its place, whose operand is finished
