@@ -1,5 +1,5 @@
 -- Entries of a tree table, in order or not. Assumes nothing.
-use Rattle.std.proofs.Common.{◌≡◌, ℕ, ◌+◌, ◌<◌, ◌≤◌, Bool, true, false, List, length, Decides, sym, refl, subst, arith}
+use Rattle.std.proofs.Common.{◌≡◌, ℕ, ◌+◌, ◌<◌, ◌≤◌, Bool, true, false, List, length, Option, Decides, sym, refl, subst, arith}
 use Rattle.std.proofs.lemmas.List.{get_or_past}
 use Rattle.std.proofs.lemmas.Bool.{both_ways}
 use Rattle.parser.specs.declared.symbols.Leaf.{Leaf as AnyLeaf}
@@ -29,7 +29,7 @@ no_expression is x = says_no (λ y. x (subst (λ z. Expression z) is y))
 pub blank_none : Expression Blank → ⊥
 blank_none x = elim x [ ]
 
-pub statement_none : {j k : ℕ} → Expression (Statement j k) → ⊥
+pub statement_none : {j : Option ℕ} {k : ℕ} → Expression (Statement j k) → ⊥
 statement_none x = elim x [ ]
 
 module _ {sheet : ℕ} {table : List TreeEntry} {i : ℕ} where
@@ -76,13 +76,13 @@ module _ {sheet : ℕ} {table : List TreeEntry} {i : ℕ} where
   pub choice_told : {j k l : ℕ} {r : Bool} → Decides true (Part table i j) → Decides true (Part table i k) → Decides r (Part table i l) → Decides r (Proper sheet table i (Choice j k l))
   choice_told a b d = (λ e. proper_choice (a.0 refl) (b.0 refl) (d.0 e), λ x. d.1 (choice_parts x).2)
 
-  statement_parts : {j k : ℕ} → Proper sheet table i (Statement j k) → Earlier table i j × Part table i k
+  statement_parts : {j : Option ℕ} {k : ℕ} → Proper sheet table i (Statement j k) → Earlier table i j × Part table i k
   statement_parts (proper_statement x y) = (x, y)
 
-  pub not_earlier : {j k : ℕ} → Decides false (Earlier table i j) → Decides false (Proper sheet table i (Statement j k))
+  pub not_earlier : {j : Option ℕ} {k : ℕ} → Decides false (Earlier table i j) → Decides false (Proper sheet table i (Statement j k))
   not_earlier d = says_no (λ x. refuted d (statement_parts x).0)
 
-  pub statement_told : {j k : ℕ} {r : Bool} → Decides true (Earlier table i j) → Decides r (Part table i k) → Decides r (Proper sheet table i (Statement j k))
+  pub statement_told : {j : Option ℕ} {k : ℕ} {r : Bool} → Decides true (Earlier table i j) → Decides r (Part table i k) → Decides r (Proper sheet table i (Statement j k))
   statement_told a d = (λ e. proper_statement (a.0 refl) (d.0 e), λ x. d.1 (statement_parts x).1)
 
 -- an entry past the end of the table

@@ -1,5 +1,5 @@
 -- The first frame of a walk, and what it has told in the end. Assumes nothing.
-use Rattle.std.proofs.Common.{◌≡◌, ℕ, suc, ◌+◌, ◌-◌, ◌<◌, ◌≤◌, false, List, [], ◌∷◌, length, get_or, sym, ◌∙◌, subst, append-nil, arith}
+use Rattle.std.proofs.Common.{◌≡◌, ℕ, suc, ◌+◌, ◌-◌, ◌<◌, ◌≤◌, false, List, [], ◌∷◌, length, get_or, Option, sym, ◌∙◌, subst, append-nil, arith}
 use Rattle.stack.specs.Items.{held}
 use Rattle.types.specs.Types.{any}
 use Rattle.types.specs.Table.{Is, entry_at}
@@ -27,12 +27,12 @@ bounds : (ss : List Expr) → sizes ss ≤ 4096 → (suc (exprs ss) ≤ 4096) ×
 bounds [] small = (omega arith, omega arith)
 bounds (e ∷ ss) small = let h = counted (e ∷ ss) in (omega (arith, h.0), omega (arith, h.0, h.1))
 
-first_going : (sheet : List ℕ) (Γ : Meaning) (table : List TreeEntry) (last : ℕ) (ss : List Expr) (ns : List Note) → Listed table last ss → sizes ss ≤ 4096 → AllTyped sheet Γ ss ns → Going sheet Γ table ns 8192 (Statements last ∷ []) [] []
+first_going : (sheet : List ℕ) (Γ : Meaning) (table : List TreeEntry) (last : Option ℕ) (ss : List Expr) (ns : List Note) → Listed table last ss → sizes ss ≤ 4096 → AllTyped sheet Γ ss ns → Going sheet Γ table ns 8192 (Statements last ∷ []) [] []
 first_going sheet Γ table last ss ns listed small typed =
     let b = bounds ss small in
     going (owes_statements listed typed (λ us. owes_none)) (append-nil ns) (omega (arith, b.1)) (omega (arith, b.0)) (omega (arith, few_notes_of_all typed))
 
-pub first_stands : (sheet : List ℕ) (Γ : Meaning) (table : List TreeEntry) (last : ℕ) (ss : List Expr) (ns : List Note) (w : State) → Listed table last ss → sizes ss ≤ 4096 → AllTyped sheet Γ ss ns
+pub first_stands : (sheet : List ℕ) (Γ : Meaning) (table : List TreeEntry) (last : Option ℕ) (ss : List Expr) (ns : List Note) (w : State) → Listed table last ss → sizes ss ≤ 4096 → AllTyped sheet Γ ss ns
     → held w.frames ≡ Statements last ∷ [] → held w.operators ≡ [] → Rooms w → 8192 ≤ length (entries w.store) → w.store.used ≡ 0 → w.store.count ≡ 0 → w.store.load ≡ 0 → w.store.heavy ≡ false
     → w.findings.count ≡ 0 → FirstOf blank w.findings.slots.now [] → Stands sheet Γ table ns 8192 (held w.frames) w
 first_stands sheet Γ table last ss ns w listed small typed frames operators rooms size used count load heavy none_yet blanks =

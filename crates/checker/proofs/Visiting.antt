@@ -1,5 +1,6 @@
 -- One lemma for each entry of the tree that the walk visits. Assumes nothing.
-use Rattle.std.proofs.Common.{◌≡◌, ℕ, suc, ◌+◌, ◌≤◌, List, [], ◌∷◌, ◌++◌, length, sym, refl, ap, ◌∙◌, subst, append_assoc, arith, length-append}
+use Rattle.std.proofs.Common.{◌≡◌, ℕ, suc, ◌+◌, ◌≤◌, List, [], ◌∷◌, ◌++◌, length, Some, None, Option, sym, refl, ap, ◌∙◌, subst, append_assoc, arith, length-append}
+use Rattle.std.proofs.lemmas.Option.{none-some, same_Some}
 use Rattle.stack.specs.Items.{held, room}
 use Rattle.types.specs.Types.{Ty}
 use Rattle.registers.specs.Meaning.{Meaning, Sound}
@@ -105,25 +106,25 @@ module _ {sheet : List ℕ} {Γ : Meaning} {table : List TreeEntry} {whole : Lis
   no_visit (visits (choice_shape x y z) t o all enough small brief) a b c d = d _ _ _ refl
 
   -- the statements up to an index
-  pub statements_done : (i : ℕ) → i ≡ 0 → Going sheet Γ table whole (suc left) (Statements i ∷ fs) vs ms → Going sheet Γ table whole left fs vs ms
+  pub statements_done : (i : Option ℕ) → i ≡ None → Going sheet Γ table whole (suc left) (Statements i ∷ fs) vs ms → Going sheet Γ table whole left fs vs ms
   statements_done i z (going (owes_statements listed typed o) all enough small brief) = go z listed typed o all enough small
     where
-      go : {i : ℕ} {es : List Expr} {ns rest : List Note} {k n : ℕ} → i ≡ 0 → Listed table i es → AllTyped sheet Γ es ns → ((us : List Opd) → Owes sheet Γ table fs us rest k n) → ms ++ (ns ++ rest) ≡ whole
+      go : {i : Option ℕ} {es : List Expr} {ns rest : List Note} {k n : ℕ} → i ≡ None → Listed table i es → AllTyped sheet Γ es ns → ((us : List Opd) → Owes sheet Γ table fs us rest k n) → ms ++ (ns ++ rest) ≡ whole
           → suc (turns es) + k ≤ suc left → length vs + (suc (exprs es) + n) ≤ 4096 → Going sheet Γ table whole left fs vs ms
       go z no_more typed_none o all enough small = going (o vs) all (omega arith) (omega arith) brief
-      go z (one_more q a b l t) typed o all enough small = absurd (omega arith)
+      go z (one_more q a b l t) typed o all enough small = absurd (none-some _ (sym z))
 
-  pub statement_visit : (i k : ℕ) (b j : ℕ) → i ≡ suc k → tree_at table k ≡ entry.Statement b j → Going sheet Γ table whole (suc left) (Statements i ∷ fs) vs ms → Going sheet Γ table whole left (Statements b ∷ Expression j ∷ fs) vs ms
+  pub statement_visit : (i : Option ℕ) (k : ℕ) (b : Option ℕ) (j : ℕ) → i ≡ Some k → tree_at table k ≡ entry.Statement b j → Going sheet Γ table whole (suc left) (Statements i ∷ fs) vs ms → Going sheet Γ table whole left (Statements b ∷ Expression j ∷ fs) vs ms
   statement_visit i k b j is q (going (owes_statements listed typed o) all enough small brief) = go is listed typed o all enough small
     where
-      P : ℕ → ℕ → Type 0
+      P : Option ℕ → ℕ → Type 0
       P b j = Going sheet Γ table whole left (Statements b ∷ Expression j ∷ fs) vs ms
 
-      go : {i : ℕ} {es : List Expr} {ns rest : List Note} {l n : ℕ} → i ≡ suc k → Listed table i es → AllTyped sheet Γ es ns → ((us : List Opd) → Owes sheet Γ table fs us rest l n) → ms ++ (ns ++ rest) ≡ whole
+      go : {i : Option ℕ} {es : List Expr} {ns rest : List Note} {l n : ℕ} → i ≡ Some k → Listed table i es → AllTyped sheet Γ es ns → ((us : List Opd) → Owes sheet Γ table fs us rest l n) → ms ++ (ns ++ rest) ≡ whole
           → suc (turns es) + l ≤ suc left → length vs + (suc (exprs es) + n) ≤ 4096 → Going sheet Γ table whole left (Statements b ∷ Expression j ∷ fs) vs ms
-      go is no_more typed o all enough small = absurd (omega arith)
+      go is no_more typed o all enough small = absurd (none-some _ is)
       go {rest = rest} is (one_more {i = b'} {j = j'} {k = k'} {ss = ss} {e = e} q' l m listed tree) typed o all enough small =
-          let at : k' ≡ k = omega arith in
+          let at = same_Some k' k is in
           let same : entry.Statement b' j' ≡ entry.Statement b j = sym q' ∙ (ap (tree_at table) at ∙ q) in
           let first : b' ≡ b = cc in
           let second : j' ≡ j = cc in
@@ -132,12 +133,12 @@ module _ {sheet : List ℕ} {Γ : Meaning} {table : List TreeEntry} {whole : Lis
           let here : P b' j' = going (owes_statements listed s.3 (λ us. owes_expression tree s.4 (o _))) whole_is (omega (arith, turns_last ss e)) (omega (arith, exprs_last ss e)) brief in
           subst (λ x. P x j) first (subst (P b') second here)
 
-  pub no_statement : (i k : ℕ) → i ≡ suc k → ((b j : ℕ) → tree_at table k ≡ entry.Statement b j → ⊥) → Going sheet Γ table whole (suc left) (Statements i ∷ fs) vs ms → ⊥
+  pub no_statement : (i : Option ℕ) (k : ℕ) → i ≡ Some k → ((b : Option ℕ) (j : ℕ) → tree_at table k ≡ entry.Statement b j → ⊥) → Going sheet Γ table whole (suc left) (Statements i ∷ fs) vs ms → ⊥
   no_statement i k is none (going (owes_statements listed typed o) all enough small brief) = go is listed
     where
-      go : {i : ℕ} {es : List Expr} → i ≡ suc k → Listed table i es → ⊥
-      go is no_more = omega arith
-      go is (one_more {k = k'} q l m listed tree) = let at : k' ≡ k = omega arith in none _ _ (ap (tree_at table) (sym at) ∙ q)
+      go : {i : Option ℕ} {es : List Expr} → i ≡ Some k → Listed table i es → ⊥
+      go is no_more = none-some _ is
+      go is (one_more {k = k'} q l m listed tree) = let at = same_Some k' k is in none _ _ (ap (tree_at table) (sym at) ∙ q)
 
 -- frames were put on top
 pub pushed_goes : {sheet : List ℕ} {Γ : Meaning} {table : List TreeEntry} {whole : List Note} {left : ℕ} (w v : Walk) (f : First Finding) (s : Store) (xs : List WalkFrame) {gs : List WalkFrame}

@@ -1,5 +1,5 @@
 -- No public contract cites it. What the check asks of entries of a tree table and of a type table. Assumes nothing.
-use Rattle.std.specs.Prelude.{◌≡◌, ℕ, ◌≤◌, Bool, List, length, Decides}
+use Rattle.std.specs.Prelude.{◌≡◌, ℕ, ◌≤◌, Bool, List, length, Option, Decides}
 use Rattle.types.specs.declared.entries.TypeEntry.{TypeEntry}
 use Rattle.types.specs.Types.{Ty, Meet}
 use Rattle.types.specs.Table.{Is}
@@ -10,7 +10,7 @@ use Rattle.checker.specs.Rules.{number_or_string, Numeric, Textual}
 
 -- the entry is a statement's
 abbrev pub StatementEntry : TreeEntry → Type 0
-StatementEntry e = (j k : ℕ) × (e ≡ Statement j k)
+StatementEntry e = (j : Option ℕ) × (k : ℕ) × (e ≡ Statement j k)
 
 -- r says whether the type e, with its parts below n, has a number or a string among its values
 abbrev pub SaysNumberOrString : List TypeEntry → ℕ → TypeEntry → Bool → Type 0

@@ -1,5 +1,5 @@
 -- What the frames of a check still owe. No public contract cites it. Assumes nothing.
-use Rattle.std.specs.Prelude.{◌≡◌, ℕ, suc, ◌+◌, ◌≤◌, List, [], ◌∷◌, ◌++◌, length}
+use Rattle.std.specs.Prelude.{◌≡◌, ℕ, suc, ◌+◌, ◌≤◌, List, [], ◌∷◌, ◌++◌, length, Option}
 use Rattle.types.specs.Types.{Ty, boolean, no_types, ◌and◌}
 use Rattle.building.specs.Unions.{UnionOf}
 use Rattle.registers.specs.Meaning.{Meaning}
@@ -30,7 +30,7 @@ turns (e ∷ es) = suc (size e + size e) + turns es
 -- the stacks
 pub data Owes (sheet : List ℕ) (Γ : Meaning) (table : List TreeEntry) : List WalkFrame → List Opd → List Note → ℕ → ℕ → Type 0 where
   owes_none : {vs : List Opd} → Owes sheet Γ table [] vs [] 0 0
-  owes_statements : {i k n : ℕ} {es : List Expr} {ms ns : List Note} {fs : List WalkFrame} {vs : List Opd} →
+  owes_statements : {i : Option ℕ} {k n : ℕ} {es : List Expr} {ms ns : List Note} {fs : List WalkFrame} {vs : List Opd} →
       Listed table i es → AllTyped sheet Γ es ms → ((us : List Opd) → Owes sheet Γ table fs us ns k n) →
       Owes sheet Γ table (Statements i ∷ fs) vs (ms ++ ns) (suc (turns es) + k) (suc (exprs es) + n)
   owes_expression : {i k n : ℕ} {e : Expr} {t : Ty} {ms ns : List Note} {fs : List WalkFrame} {vs : List Opd} →

@@ -30,11 +30,11 @@ struct Walked {
     heavy: bool,
 }
 
-// Walks over the statements up to an index.
+// Walks over the statement at an index, if there is one, and those before it.
 fn walk_over<'a, R: Register>(
     sheet: &[u8],
     tree: &[TreeEntry],
-    last: usize,
+    last: Option<usize>,
     names: &R,
     operators: &'a mut [OperatorEntry],
     frames: &'a mut [WalkFrame],

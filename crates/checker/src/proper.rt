@@ -38,15 +38,14 @@ fn is_part(tree: &[TreeEntry], i: usize, j: usize) -> bool
     is_expression(tree[j])
 }
 
-// Whether j, which entry i has, says where the statement before it is, or that there is none.
-fn is_earlier(tree: &[TreeEntry], i: usize, j: usize) -> bool
+// Whether entry i can have this index of the statement before it, if there is one.
+fn is_earlier(tree: &[TreeEntry], i: usize, before: Option<usize>) -> bool
     requires { i < length tree.now }
-    ensures { Decides result (Earlier tree.now i j) }
+    ensures { Decides result (Earlier tree.now i before) }
 {
-    if j == 0 {
+    let Some(k) = before else {
         return true;
-    }
-    let k = j - 1;
+    };
     if k >= i {
         return false;
     }

@@ -30,7 +30,7 @@ fn see_to<R: Register>(
 {
     match frame {
         WalkFrame::Blank => {}
-        WalkFrame::Statements(i) => visit_statements(tree, w, i),
+        WalkFrame::Statements(last) => visit_statements(tree, w, last),
         WalkFrame::Expression(i) => {
             visit_expression(sheet, tree, w, findings, store, names, room, i)
         }

@@ -171,14 +171,14 @@ pub fn visit_expression<R: Register>(
     }
 }
 
-// The statements up to an index: those before the last one first.
-pub fn visit_statements(tree: &[TreeEntry], w: &mut Walk, i: usize)
-    ensures { (sheet : List ℕ) (Γ : Meaning) (f : AnyFirst AnyFinding) (s : AnyStore) → Onward sheet Γ tree.now (Statements i) (state w.old f s) (state w.new f s) }
+// The statement at an index, if there is one, and those before it, which come first.
+pub fn visit_statements(tree: &[TreeEntry], w: &mut Walk, last: Option<usize>)
+    ensures { (sheet : List ℕ) (Γ : Meaning) (f : AnyFirst AnyFinding) (s : AnyStore) → Onward sheet Γ tree.now (Statements last) (state w.old f s) (state w.new f s) }
 {
-    if i == 0 {
+    let Some(i) = last else {
         return;
-    }
-    match tree_at(tree, i - 1) {
+    };
+    match tree_at(tree, i) {
         TreeEntry::Statement { before, expression } => wait_two(
             w,
             WalkFrame::Expression(expression),

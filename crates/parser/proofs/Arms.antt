@@ -1,5 +1,5 @@
 -- What each arm of the reader's functions leaves. Assumes nothing.
-use Rattle.std.proofs.Common.{◌≡◌, ℕ, ◌+◌, ◌<◌, ◌≤◌, List, [], ◌∷◌, ◌++◌, length, set, IfSome, Some, None, Option, sym, refl, ap, ◌∙◌, subst, inl, inr, add-one, arith, MatchOption}
+use Rattle.std.proofs.Common.{◌≡◌, ℕ, ◌+◌, ◌<◌, ◌≤◌, List, [], ◌∷◌, ◌++◌, length, set, IfSome, Some, None, Option, sym, refl, ap, ◌∙◌, subst, inl, inr, arith, MatchOption}
 use Rattle.parser.specs.declared.symbols.Leaf.{Leaf as AnyLeaf}
 use Rattle.parser.specs.declared.symbols.Prefix.{Prefix as AnyPrefix}
 use Rattle.parser.specs.declared.symbols.Operator.{Operator}
@@ -25,7 +25,7 @@ use Rattle.parser.proofs.Turns.{one_follow, never, wants_prefix, at_infix, at_qu
 use Rattle.parser.proofs.Tables.{kept_set, set_at, tree_kept, listed_kept, below, earlier, before_more}
 
 -- a token that is an expression by itself: one entry more
-pub step_leaf : {sheet : ℕ} {table : List TreeEntry} {fs : List OperatorEntry} {used last : ℕ} {b : List Expr} {ps : List Part} (l : AnyLeaf) (t : Token) → t.symbol ≡ Leaf l → used < length table → Within sheet t → Before sheet table fs used last b ps → Next sheet (set table used (LeafEntry l t.place t.len)) fs (record { used = used + 1; last = last; position = After used }) want b ps t
+pub step_leaf : {sheet : ℕ} {table : List TreeEntry} {fs : List OperatorEntry} {used : ℕ} {last : Option ℕ} {b : List Expr} {ps : List Part} (l : AnyLeaf) (t : Token) → t.symbol ≡ Leaf l → used < length table → Within sheet t → Before sheet table fs used last b ps → Next sheet (set table used (LeafEntry l t.place t.len)) fs (record { used = used + 1; last = last; position = After used }) want b ps t
 step_leaf {table = table} {used = used} {b = b} {ps = ps} l t is room within h = record {
   state = after atom (leaf l t.place t.len);
   statements = b;
@@ -38,7 +38,7 @@ step_leaf {table = table} {used = used} {b = b} {ps = ps} l t is room within h =
 }
 
 -- one part more, and then an operand is wanted
-pushed : {sheet : ℕ} {table : List TreeEntry} {gs hs : List OperatorEntry} {x : OperatorEntry} {used last : ℕ} {b : List Expr} {ps qs : List Part} {s : State} (t : Token) (q : Part) → hs ≡ x ∷ gs → (Frames sheet table used gs ps → Frames sheet table used (x ∷ gs) (q ∷ ps)) → Ready (q ∷ ps) → Before sheet table gs used last b ps → ((ts : List Token) → Same s b qs (t ∷ ts) want b (q ∷ ps) ts) → Next sheet table hs (record { used = used; last = last; position = Want }) s b qs t
+pushed : {sheet : ℕ} {table : List TreeEntry} {gs hs : List OperatorEntry} {x : OperatorEntry} {used : ℕ} {last : Option ℕ} {b : List Expr} {ps qs : List Part} {s : State} (t : Token) (q : Part) → hs ≡ x ∷ gs → (Frames sheet table used gs ps → Frames sheet table used (x ∷ gs) (q ∷ ps)) → Ready (q ∷ ps) → Before sheet table gs used last b ps → ((ts : List Token) → Same s b qs (t ∷ ts) want b (q ∷ ps) ts) → Next sheet table hs (record { used = used; last = last; position = Want }) s b qs t
 pushed {sheet} {table} {used = used} {b = b} {ps = ps} t q held frame ready h same = record {
   state = want;
   statements = b;
@@ -50,7 +50,7 @@ pushed {sheet} {table} {used = used} {b = b} {ps = ps} t q held frame ready h sa
   same = same;
 }
 
-pub step_open : {sheet : ℕ} {table : List TreeEntry} {fs gs : List OperatorEntry} {used last : ℕ} {b : List Expr} {ps : List Part} (t : Token) → t.symbol ≡ Open → gs ≡ Bracket ∷ fs → Before sheet table fs used last b ps → Next sheet table gs (record { used = used; last = last; position = Want }) want b ps t
+pub step_open : {sheet : ℕ} {table : List TreeEntry} {fs gs : List OperatorEntry} {used : ℕ} {last : Option ℕ} {b : List Expr} {ps : List Part} (t : Token) → t.symbol ≡ Open → gs ≡ Bracket ∷ fs → Before sheet table fs used last b ps → Next sheet table gs (record { used = used; last = last; position = Want }) want b ps t
 step_open {b = b} {ps = ps} t is held h = pushed t bracket held a_bracket h.ready h (λ ts. at_open b ps t ts is)
 
 -- no token is an expression by itself unless its symbol says so
@@ -65,14 +65,14 @@ no_leaf Question f = refl
 no_leaf Colon f = refl
 no_leaf Semicolon f = refl
 
-pub step_prefix : {sheet : ℕ} {table : List TreeEntry} {fs gs : List OperatorEntry} {used last : ℕ} {b : List Expr} {ps : List Part} (op : AnyPrefix) (t : Token) → Some op ≡ before t.symbol → leaf_of t.symbol ≡ None → Within sheet t → gs ≡ Applying op t.place ∷ fs → Before sheet table fs used last b ps → Next sheet table gs (record { used = used; last = last; position = Want }) want b ps t
+pub step_prefix : {sheet : ℕ} {table : List TreeEntry} {fs gs : List OperatorEntry} {used : ℕ} {last : Option ℕ} {b : List Expr} {ps : List Part} (op : AnyPrefix) (t : Token) → Some op ≡ before t.symbol → leaf_of t.symbol ≡ None → Within sheet t → gs ≡ Applying op t.place ∷ fs → Before sheet table fs used last b ps → Next sheet table gs (record { used = used; last = last; position = Want }) want b ps t
 step_prefix {b = b} {ps = ps} op t is other within held h =
     pushed t (right (right_prefix op t.place)) held (a_prefix within.0) (wants_prefix ps, h.ready) h (λ ts. at_prefix b ps op t ts (sym is) other)
 
 -- after an operand
 
-pub step_close : {sheet : ℕ} {table : List TreeEntry} {fs gs : List OperatorEntry} {x : OperatorEntry} {o : Operand} {last k : ℕ} {b : List Expr} {ps : List Part} {e : Expr} (t : Token) → t.symbol ≡ Close → x ≡ Bracket → fs ≡ x ∷ gs → Ended sheet table fs o last k b ps e → Next sheet table gs (record { used = o.used; last = last; position = After o.at }) (after k e) b ps t
-step_close {sheet} {table} {fs} {gs} {x} {o} {last} {k} {b} {ps} {e} t is top held h = go (subst (λ f. Frames sheet table o.used f ps) (held ∙ ap (λ y. y ∷ gs) top) h.before.frames) h.before.ready
+pub step_close : {sheet : ℕ} {table : List TreeEntry} {fs gs : List OperatorEntry} {o : Operand} {last : Option ℕ} {k : ℕ} {b : List Expr} {ps : List Part} {e : Expr} (t : Token) → t.symbol ≡ Close → fs ≡ Bracket ∷ gs → Ended sheet table fs o last k b ps e → Next sheet table gs (record { used = o.used; last = last; position = After o.at }) (after k e) b ps t
+step_close {sheet} {table} {fs} {gs} {o} {last} {k} {b} {ps} {e} t is held h = go (subst (λ f. Frames sheet table o.used f ps) held h.before.frames) h.before.ready
   where
     go : {ps : List Part} → Frames sheet table o.used (Bracket ∷ gs) ps → Ready ps → Next sheet table gs (record { used = o.used; last = last; position = After o.at }) (after k e) b ps t
     go (a_bracket {ps = ps} f) r = record {
@@ -83,7 +83,7 @@ step_close {sheet} {table} {fs} {gs} {x} {o} {last} {k} {b} {ps} {e} t is top he
       same = λ ts. at_close b ps k e t ts is;
     }
 
-pub step_end : {sheet : ℕ} {table : List TreeEntry} {fs gs : List OperatorEntry} {o : Operand} {last k : ℕ} {b : List Expr} {ps : List Part} {e : Expr} (t : Token) → t.symbol ≡ Semicolon → fs ≡ [] → gs ≡ [] → o.used < length table → Ended sheet table fs o last k b ps e → Next sheet (set table o.used (Statement last o.at)) gs (record { used = o.used + 1; last = o.used + 1; position = Start }) (after k e) b ps t
+pub step_end : {sheet : ℕ} {table : List TreeEntry} {fs gs : List OperatorEntry} {o : Operand} {last : Option ℕ} {k : ℕ} {b : List Expr} {ps : List Part} {e : Expr} (t : Token) → t.symbol ≡ Semicolon → fs ≡ [] → gs ≡ [] → o.used < length table → Ended sheet table fs o last k b ps e → Next sheet (set table o.used (Statement last o.at)) gs (record { used = o.used + 1; last = Some o.used; position = Start }) (after k e) b ps t
 step_end {sheet} {table} {fs} {gs} {o} {last} {k} {b} {ps} {e} t is held left room h = go (subst (λ f. Frames sheet table o.used f ps) held h.before.frames)
   where
     kept : Kept o.used table (set table o.used (Statement last o.at))
@@ -95,9 +95,9 @@ step_end {sheet} {table} {fs} {gs} {o} {last} {k} {b} {ps} {e} t is held left ro
     tree : Tree (set table o.used (Statement last o.at)) o.at e
     tree = tree_kept kept h.low h.tree
 
-    go : {ps : List Part} → Frames sheet table o.used [] ps → Next sheet (set table o.used (Statement last o.at)) gs (record { used = o.used + 1; last = o.used + 1; position = Start }) (after k e) b ps t
+    go : {ps : List Part} → Frames sheet table o.used [] ps → Next sheet (set table o.used (Statement last o.at)) gs (record { used = o.used + 1; last = Some o.used; position = Start }) (after k e) b ps t
     go no_frame =
-        let more = before_more {fs = []} {ps = []} (Statement last o.at) room (proper_statement (earlier h.before.low listed) (below h.low tree)) (record { frames = no_frame; ready = tt; listed = h.before.listed; low = h.before.low; proper = h.before.proper }) in
+        let more = before_more {fs = []} {ps = []} (Statement last o.at) room (proper_statement (earlier _ h.before.low listed) (below h.low tree)) (record { frames = no_frame; ready = tt; listed = h.before.listed; low = h.before.low; proper = h.before.proper }) in
         record {
           state = start;
           statements = b ++ e ∷ [];
@@ -106,7 +106,7 @@ step_end {sheet} {table} {fs} {gs} {o} {last} {k} {b} {ps} {e} t is held left ro
             before = record {
               frames = subst (λ f. Frames sheet (set table o.used (Statement last o.at)) (o.used + 1) f []) (sym left) no_frame;
               ready = tt;
-              listed = subst (λ n. Listed (set table o.used (Statement last o.at)) n (b ++ e ∷ [])) (sym (add-one o.used)) (one_more (set_at o.used table (Statement last o.at) room) h.before.low h.low listed tree);
+              listed = one_more (set_at o.used table (Statement last o.at) room) h.before.low h.low listed tree;
               low = omega arith;
               proper = more.proper;
             };
@@ -116,7 +116,7 @@ step_end {sheet} {table} {fs} {gs} {o} {last} {k} {b} {ps} {e} t is held left ro
         }
 
 -- what is on top is not closed by t
-pub unmet : {sheet : ℕ} {table : List TreeEntry} {fs : List OperatorEntry} {o : Operand} {last k : ℕ} {b : List Expr} {ps : List Part} {e : Expr} (t : Token) → follow t.symbol ≡ None → ((ps : List Part) → Frames sheet table o.used fs ps → Closer ps t.symbol → ⊥) → Ended sheet table fs o last k b ps e → Dead (after k e) b ps t
+pub unmet : {sheet : ℕ} {table : List TreeEntry} {fs : List OperatorEntry} {o : Operand} {last : Option ℕ} {k : ℕ} {b : List Expr} {ps : List Part} {e : Expr} (t : Token) → follow t.symbol ≡ None → ((ps : List Part) → Frames sheet table o.used fs ps → Closer ps t.symbol → ⊥) → Ended sheet table fs o last k b ps e → Dead (after k e) b ps t
 unmet {k = k} {b} {ps} {e} t n other h = not_closed b ps k e t n (other ps h.before.frames)
 
 pub not_end : {sheet : ℕ} {table : List TreeEntry} {fs : List OperatorEntry} {used : ℕ} (s : Symbol) → (s ≡ Semicolon → ⊥) → fs ≡ [] → (ps : List Part) → Frames sheet table used fs ps → Closer ps s → ⊥
@@ -125,22 +125,15 @@ not_end {sheet} {table} {fs} {used} s other held ps f = go (subst (λ f. Frames 
     go : {ps : List Part} → Frames sheet table used [] ps → Closer ps s → ⊥
     go no_frame = other
 
-pub not_shut : {sheet : ℕ} {table : List TreeEntry} {fs gs : List OperatorEntry} {x : OperatorEntry} {used : ℕ} (s : Symbol) → (s ≡ Close → ⊥) → x ≡ Bracket → fs ≡ x ∷ gs → (ps : List Part) → Frames sheet table used fs ps → Closer ps s → ⊥
-not_shut {sheet} {table} {fs} {gs} {x} {used} s other top held ps f = go (subst (λ f. Frames sheet table used f ps) (held ∙ ap (λ y. y ∷ gs) top) f)
+pub not_shut : {sheet : ℕ} {table : List TreeEntry} {fs gs : List OperatorEntry} {used : ℕ} (s : Symbol) → (s ≡ Close → ⊥) → fs ≡ Bracket ∷ gs → (ps : List Part) → Frames sheet table used fs ps → Closer ps s → ⊥
+not_shut {sheet} {table} {fs} {gs} {used} s other held ps f = go (subst (λ f. Frames sheet table used f ps) held f)
   where
     go : {ps : List Part} → Frames sheet table used (Bracket ∷ gs) ps → Closer ps s → ⊥
     go (a_bracket f) = other
 
-pub not_chosen : {sheet : ℕ} {table : List TreeEntry} {gs : List OperatorEntry} {l used : ℕ} (s : Symbol) → (s ≡ Colon → ⊥) → (ps : List Part) → Frames sheet table used (Consequent l ∷ gs) ps → Closer ps s → ⊥
-not_chosen s other _ (a_consequent p t fr) = other
-
--- the top of the stack, by what it was found to be
-pub retop : {sheet : ℕ} {table : List TreeEntry} {fs gs : List OperatorEntry} {x y : OperatorEntry} {o : Operand} {last k : ℕ} {b : List Expr} {ps : List Part} {e : Expr} → fs ≡ x ∷ gs → x ≡ y → Ended sheet table fs o last k b ps e → Ended sheet table (y ∷ gs) o last k b ps e
-retop {sheet} {table} {gs = gs} {o = o} {last} {k} {b} {ps} {e} held is h = subst (λ f. Ended sheet table f o last k b ps e) (held ∙ ap (λ y. y ∷ gs) is) h
-
 -- the branches of a choice
-pub step_colon : {sheet : ℕ} {table : List TreeEntry} {gs hs : List OperatorEntry} {l : ℕ} {o : Operand} {last k : ℕ} {b : List Expr} {ps : List Part} {e : Expr} (t : Token) → t.symbol ≡ Colon → hs ≡ Otherwise l o.at ∷ gs → Ended sheet table (Consequent l ∷ gs) o last k b ps e → Next sheet table hs (record { used = o.used; last = last; position = Want }) (after k e) b ps t
-step_colon {sheet} {table} {gs} {hs} {l} {o} {last} {k} {b} {e = e} t is held h = go h.before.frames h.before.ready
+pub step_colon : {sheet : ℕ} {table : List TreeEntry} {fs gs hs : List OperatorEntry} {l : ℕ} {o : Operand} {last : Option ℕ} {k : ℕ} {b : List Expr} {ps : List Part} {e : Expr} (t : Token) → t.symbol ≡ Colon → fs ≡ Consequent l ∷ gs → hs ≡ Otherwise l o.at ∷ gs → Ended sheet table fs o last k b ps e → Next sheet table hs (record { used = o.used; last = last; position = Want }) (after k e) b ps t
+step_colon {sheet} {table} {fs} {gs} {hs} {l} {o} {last} {k} {b} {ps} {e = e} t is top held h = go (subst (λ f. Frames sheet table o.used f ps) top h.before.frames) h.before.ready
   where
     go : {ps : List Part} → Frames sheet table o.used (Consequent l ∷ gs) ps → Ready ps → Next sheet table hs (record { used = o.used; last = last; position = Want }) (after k e) b ps t
     go (a_consequent {ps = ps} {a = a} p s fr) r =
@@ -162,18 +155,18 @@ lower_wants (inr l) (a_prefix p f) = some_none (l 0)
 lower_wants (inl l) (an_otherwise p q s s' f) = omega arith
 lower_wants (inr l) (an_otherwise p q s s' f) = some_none (l 0)
 
--- no other part is on top
-pub not_right : {A : Type 0} {sheet : ℕ} {table : List TreeEntry} {used : ℕ} {ps : List Part} (x : OperatorEntry) (fs gs : List OperatorEntry) → fs ≡ x ∷ gs → (x ≡ Bracket → ⊥) → ((l : ℕ) → x ≡ Consequent l → ⊥) → Lower 0 fs → Frames sheet table used fs ps → A
-not_right {sheet = sheet} {table} {used} {ps} x fs gs held f g l fr = absurd (go f g (subst (λ q. Lower 0 q) held l) (subst (λ q. Frames sheet table used q ps) held fr))
+-- the part on top does not end with its operand, and what would close it is not here
+pub not_met : {sheet : ℕ} {table : List TreeEntry} {fs gs : List OperatorEntry} {used : ℕ} (x : OperatorEntry) (s : Symbol) → (x ≡ Bracket → ⊥) → ((l : ℕ) → x ≡ Consequent l → s ≡ Colon → ⊥) → Lower 0 fs → fs ≡ x ∷ gs → (ps : List Part) → Frames sheet table used fs ps → Closer ps s → ⊥
+not_met {sheet} {table} {fs} {gs} {used} x s f g l held ps fr = go f g (subst (λ q. Lower 0 q) held l) (subst (λ q. Frames sheet table used q ps) held fr)
   where
-    go : {x : OperatorEntry} {ps : List Part} → (x ≡ Bracket → ⊥) → ((l : ℕ) → x ≡ Consequent l → ⊥) → Lower 0 (x ∷ gs) → Frames sheet table used (x ∷ gs) ps → ⊥
-    go f g l (a_bracket fr) = f refl
+    go : {x : OperatorEntry} {ps : List Part} → (x ≡ Bracket → ⊥) → ((l : ℕ) → x ≡ Consequent l → s ≡ Colon → ⊥) → Lower 0 (x ∷ gs) → Frames sheet table used (x ∷ gs) ps → Closer ps s → ⊥
+    go f g l (a_bracket fr) = absurd (f refl)
     go f g l (a_consequent p s fr) = g _ refl
-    go f g (inl l) (an_infix p s fr) = omega arith
+    go f g (inl l) (an_infix p s fr) = absurd (omega arith)
     go f g (inr l) (an_infix p s fr) = some_none (l 0)
-    go f g (inl l) (a_prefix p fr) = omega arith
+    go f g (inl l) (a_prefix p fr) = absurd (omega arith)
     go f g (inr l) (a_prefix p fr) = some_none (l 0)
-    go f g (inl l) (an_otherwise p q s s' fr) = omega arith
+    go f g (inl l) (an_otherwise p q s s' fr) = absurd (omega arith)
     go f g (inr l) (an_otherwise p q s s' fr) = some_none (l 0)
 
 pub fits_atom : (t : Token) → Fits t atom
@@ -186,7 +179,7 @@ pub ends_other : (t : Token) (least : ℕ) → follow t.symbol ≡ None → Ends
 ends_other t least n f o = never f n o
 
 -- the part that a token opens
-module _ {sheet : ℕ} {table : List TreeEntry} {gs hs : List OperatorEntry} {o : Operand} {last k : ℕ} {b : List Expr} {ps : List Part} {e : Expr} (t : Token) (h : Ended sheet table gs o last k b ps e) where
+module _ {sheet : ℕ} {table : List TreeEntry} {gs hs : List OperatorEntry} {o : Operand} {last : Option ℕ} {k : ℕ} {b : List Expr} {ps : List Part} {e : Expr} (t : Token) (h : Ended sheet table gs o last k b ps e) where
   pub step_infix : (f : Follow) (op : Operator) → f ≡ Infix op → hs ≡ Waiting op o.at ∷ gs → follow t.symbol ≡ Some f → wants ps ≤ level f → left f ≤ k → Next sheet table hs (record { used = o.used; last = last; position = Want }) (after k e) b ps t
   step_infix f op is held goes low high =
       let low' = subst (λ g. wants ps ≤ level g) is low in
@@ -198,7 +191,7 @@ module _ {sheet : ℕ} {table : List TreeEntry} {gs hs : List OperatorEntry} {o 
       pushed t (consequent e) held (a_consequent h.low h.tree) (low', h.before.ready) h.before (λ ts. at_question b ps k e t ts (goes ∙ ap Some is) low' (subst (λ g. left g ≤ k) is high))
 
 -- the turn of what is left after the reductions is the turn of the whole
-via_next : {sheet : ℕ} {new : List TreeEntry} {gs : List OperatorEntry} {o : Operand} {last k : ℕ} {e : Expr} {ps : List Part} {t : Token} {table : List TreeEntry} {fs : List OperatorEntry} {p : Progress} {b : List Expr} (a : AfterAll sheet new gs o last k b ps e t) → Next sheet table fs p (after a.tight a.tree) b a.parts t → Next sheet table fs p (after k e) b ps t
+via_next : {sheet : ℕ} {new : List TreeEntry} {gs : List OperatorEntry} {o : Operand} {last : Option ℕ} {k : ℕ} {e : Expr} {ps : List Part} {t : Token} {table : List TreeEntry} {fs : List OperatorEntry} {p : Progress} {b : List Expr} (a : AfterAll sheet new gs o last k b ps e t) → Next sheet table fs p (after a.tight a.tree) b a.parts t → Next sheet table fs p (after k e) b ps t
 via_next a n = record {
   state = n.state;
   statements = n.statements;
@@ -207,7 +200,7 @@ via_next a n = record {
   same = λ ts all. (λ x. (n.same ts all).0 ((a.same ts all).0 x), λ x. (a.same ts all).1 ((n.same ts all).1 x));
 }
 
-pub via : {sheet : ℕ} {new : List TreeEntry} {gs : List OperatorEntry} {o : Operand} {last k : ℕ} {e : Expr} {ps : List Part} {t : Token} {b : List Expr} (table : List TreeEntry) (fs : List OperatorEntry) (a : AfterAll sheet new gs o last k b ps e t) (r : Option Progress) → MatchOption r (Dead (after a.tight a.tree) b a.parts t) (λ n. Next sheet table fs n (after a.tight a.tree) b a.parts t) → MatchOption r (Dead (after k e) b ps t) (λ n. Next sheet table fs n (after k e) b ps t)
+pub via : {sheet : ℕ} {new : List TreeEntry} {gs : List OperatorEntry} {o : Operand} {last : Option ℕ} {k : ℕ} {e : Expr} {ps : List Part} {t : Token} {b : List Expr} (table : List TreeEntry) (fs : List OperatorEntry) (a : AfterAll sheet new gs o last k b ps e t) (r : Option Progress) → MatchOption r (Dead (after a.tight a.tree) b a.parts t) (λ n. Next sheet table fs n (after a.tight a.tree) b a.parts t) → MatchOption r (Dead (after k e) b ps t) (λ n. Next sheet table fs n (after k e) b ps t)
 via table fs a None d = λ ts all x. d ts all ((a.same ts all).0 x)
 via table fs a (Some n) h = via_next a h
 
@@ -216,7 +209,7 @@ at_most None m n k l h = tt
 at_most (Some p) m n k l h = omega arith
 
 -- a token that goes on, after the reductions
-pub goes_on_at : {sheet : ℕ} {old new : List TreeEntry} {fs gs hs : List OperatorEntry} {last : ℕ} {b : List Expr} {ps : List Part} {e : Expr} {i o : Operand} {p : Progress} (t : Token) (f : Follow) (lv : ℕ) → Some f ≡ follow t.symbol → lv ≡ level f → Reduced old fs i (lv + 1) new gs o → Lower (lv + 1) gs → Ended sheet old fs i last atom b ps e → ((ps : List Part) (k : ℕ) (e : Expr) (t : Token) → follow t.symbol ≡ Some f → wants ps ≤ level f → left f ≤ k → Ended sheet new gs o last k b ps e → Next sheet new hs p (after k e) b ps t) → Next sheet new hs p (after atom e) b ps t
+pub goes_on_at : {sheet : ℕ} {old new : List TreeEntry} {fs gs hs : List OperatorEntry} {last : Option ℕ} {b : List Expr} {ps : List Part} {e : Expr} {i o : Operand} {p : Progress} (t : Token) (f : Follow) (lv : ℕ) → Some f ≡ follow t.symbol → lv ≡ level f → Reduced old fs i (lv + 1) new gs o → Lower (lv + 1) gs → Ended sheet old fs i last atom b ps e → ((ps : List Part) (k : ℕ) (e : Expr) (t : Token) → follow t.symbol ≡ Some f → wants ps ≤ level f → left f ≤ k → Ended sheet new gs o last k b ps e → Next sheet new hs p (after k e) b ps t) → Next sheet new hs p (after atom e) b ps t
 goes_on_at {sheet} {old} {new} {fs} {gs} {last = last} {b = b} {ps = ps} {e} {i} {o} t f lv is same r lower h k =
     let q = subst (λ l. Reduced old fs i (l + 1) new gs o) same r in
     let a = q.turns sheet last atom b ps e t h (fits_atom t) (ends_follow t f (sym is)) in

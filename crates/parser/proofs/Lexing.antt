@@ -1,5 +1,5 @@
 -- The tokens that are read, among those of the whole sheet. Assumes nothing.
-use Rattle.std.proofs.Common.{◌≡◌, ℕ, ◌+◌, ◌<◌, ◌≤◌, List, [], ◌∷◌, ◌++◌, length, take, drop, sym, refl, ap, ◌∙◌, subst, append_assoc, append-nil, arith, length-append, length-drop}
+use Rattle.std.proofs.Common.{◌≡◌, ℕ, ◌+◌, ◌<◌, ◌≤◌, List, [], ◌∷◌, ◌++◌, length, None, take, drop, sym, refl, ap, ◌∙◌, subst, append_assoc, append-nil, arith, length-append, length-drop}
 use Rattle.std.proofs.lemmas.List.{map-append}
 use Rattle.lexer.specs.Tokens.{TokenAt}
 use Rattle.lexer.specs.Sizes.{Small}
@@ -113,7 +113,7 @@ not_stopped {sheet = sheet} {at = at} e s h =
     let z : ◌≡◌ {A = ℕ} 0 1 = cc in
     absurd (omega arith)
 
-pub along_none : (sheet : List ℕ) (ls : List Tok) (table : List TreeEntry) (fs : List OperatorEntry) → fs ≡ [] → Lexes sheet 0 ls finished → Along sheet ls 0 table fs (record { used = 0; last = 0; position = Start })
+pub along_none : (sheet : List ℕ) (ls : List Tok) (table : List TreeEntry) (fs : List OperatorEntry) → fs ≡ [] → Lexes sheet 0 ls finished → Along sheet ls 0 table fs (record { used = 0; last = None; position = Start })
 along_none sheet ls table fs e l = record { before = []; rest = ls; whole = refl; lexes = l; sofar = sofar_none (length sheet) table fs e; few = omega (arith, ap length e) }
 
 -- what holds once all the tokens are read

@@ -1,10 +1,9 @@
 pub mod Corner
-pub mod Sizes
+pub mod Counting
 pub mod Turns
 pub mod Tables
 pub mod Reductions
 pub mod Arms
 pub mod Whole
-pub mod Marks
 pub mod Lexing
 pub mod Faults

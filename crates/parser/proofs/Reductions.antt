@@ -30,7 +30,7 @@ reduced_one table fs x y o least made waits room = record { turns = λ sheet las
     is : {z : TreeEntry} → Some z ≡ Some y → z ≡ y
     is q = cc
 
-    done : (sheet last k : ℕ) (b : List Expr) (e : Expr) (t : Token) (r : Right) {ps : List Part} → Ends t least → least ≤ wanted r → Before sheet table fs o.used last b ps → wants ps ≤ tightness r → wanted r ≤ k → Tree (set table o.used y) o.used (built r e) → Proper sheet (set table o.used y) o.used y → AfterAll sheet (set table o.used y) fs (record { at = o.used; used = o.used + 1 }) last k b (right r ∷ ps) e t
+    done : (sheet : ℕ) (last : Option ℕ) (k : ℕ) (b : List Expr) (e : Expr) (t : Token) (r : Right) {ps : List Part} → Ends t least → least ≤ wanted r → Before sheet table fs o.used last b ps → wants ps ≤ tightness r → wanted r ≤ k → Tree (set table o.used y) o.used (built r e) → Proper sheet (set table o.used y) o.used y → AfterAll sheet (set table o.used y) fs (record { at = o.used; used = o.used + 1 }) last k b (right r ∷ ps) e t
     done sheet last k b e t r {ps} d l h q w tree p = record {
       tight = tightness r;
       tree = built r e;
@@ -40,7 +40,7 @@ reduced_one table fs x y o least made waits room = record { turns = λ sheet las
       same = λ ts. reduce b ps k r e t ts (λ f is. omega (arith, d f is)) w;
     }
 
-    go : (sheet last k : ℕ) (b : List Expr) (e : Expr) (t : Token) {x : OperatorEntry} {ps : List Part} → o.at < o.used → Tree table o.at e → Ends t least → completion x o.at ≡ Some y → least ≤ awaits x → Frames sheet table o.used (x ∷ fs) ps → Ready ps → wants ps ≤ k → ((qs : List Part) → Frames sheet table o.used fs qs → Ready qs → Before sheet table fs o.used last b qs) → AfterAll sheet (set table o.used y) fs (record { at = o.used; used = o.used + 1 }) last k b ps e t
+    go : (sheet : ℕ) (last : Option ℕ) (k : ℕ) (b : List Expr) (e : Expr) (t : Token) {x : OperatorEntry} {ps : List Part} → o.at < o.used → Tree table o.at e → Ends t least → completion x o.at ≡ Some y → least ≤ awaits x → Frames sheet table o.used (x ∷ fs) ps → Ready ps → wants ps ≤ k → ((qs : List Part) → Frames sheet table o.used fs qs → Ready qs → Before sheet table fs o.used last b qs) → AfterAll sheet (set table o.used y) fs (record { at = o.used; used = o.used + 1 }) last k b ps e t
     go sheet last k b e t low tree d q l (an_infix {op = op} {a = a} p s f) r w h =
         let s' = tree_kept kept p s in
         let tree' = tree_kept kept low tree in

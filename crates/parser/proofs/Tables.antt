@@ -1,6 +1,7 @@
 -- What a write above the entries in use leaves. Assumes nothing.
-use Rattle.std.proofs.Common.{◌≡◌, ℕ, ◌+◌, ◌<◌, ◌≤◌, List, length, set, sym, refl, ◌∙◌, subst, inl, inr, ⊎_elim, arith, length-set, get_or-set_other, get_or-set_same}
+use Rattle.std.proofs.Common.{◌≡◌, ℕ, ◌+◌, ◌<◌, ◌≤◌, List, length, set, IfSome, Some, None, Option, sym, ◌∙◌, subst, ⊎_elim, arith, length-set, get_or-set_other, get_or-set_same}
 use Rattle.std.proofs.lemmas.Bool.{cases_lt}
+use Rattle.std.proofs.lemmas.Option.{IfSome_then}
 use Rattle.parser.specs.declared.tree.TreeEntry.{TreeEntry}
 use Rattle.parser.specs.declared.tree.TreeEntry.TheVariants.{Blank}
 use Rattle.parser.specs.declared.tree.OperatorEntry.{OperatorEntry}
@@ -21,9 +22,9 @@ tree_kept k l (unary_at a p s) = unary_at (k.same _ l ∙ a) p (tree_kept k (ome
 tree_kept k l (binary_at a p q s t) = binary_at (k.same _ l ∙ a) p q (tree_kept k (omega arith) s) (tree_kept k (omega arith) t)
 tree_kept k l (choice_at a p q r s t u) = choice_at (k.same _ l ∙ a) p q r (tree_kept k (omega arith) s) (tree_kept k (omega arith) t) (tree_kept k (omega arith) u)
 
-pub listed_kept : {n : ℕ} {old new : List TreeEntry} {d : ℕ} {ss : List Expr} → Kept n old new → d ≤ n → Listed old d ss → Listed new d ss
+pub listed_kept : {n : ℕ} {old new : List TreeEntry} {d : Option ℕ} {ss : List Expr} → Kept n old new → IfSome d (λ i. i < n) → Listed old d ss → Listed new d ss
 listed_kept k l no_more = no_more
-listed_kept k l (one_more a p q s t) = one_more (k.same _ (omega arith) ∙ a) p q (listed_kept k (omega arith) s) (tree_kept k (omega arith) t)
+listed_kept k l (one_more {i} a p q s t) = one_more (k.same _ l ∙ a) p q (listed_kept k (IfSome_then i p (λ h m. omega arith)) s) (tree_kept k (omega arith) t)
 
 pub frames_kept : {sheet n : ℕ} (m : ℕ) {old new : List TreeEntry} {fs : List OperatorEntry} {ps : List Part} → Kept n old new → n ≤ m → Frames sheet old n fs ps → Frames sheet new m fs ps
 frames_kept m k l no_frame = no_frame
@@ -44,23 +45,23 @@ tree_expression (choice_at a p q r s t u) = subst Expression (sym a) is_choice
 pub below : {table : List TreeEntry} {i j : ℕ} {e : Expr} → j < i → Tree table j e → Below table i j
 below l t = record { lower = l; expression = tree_expression t }
 
-pub earlier : {table : List TreeEntry} {n d : ℕ} {ss : List Expr} → d ≤ n → Listed table d ss → Earlier table n d
-earlier l no_more = inl refl
-earlier l (one_more {i = i} {j = j} {k = k} a p q s t) = inr (k, i, j, refl, omega arith, a)
+pub earlier : (n : ℕ) {table : List TreeEntry} {d : Option ℕ} {ss : List Expr} → IfSome d (λ i. i < n) → Listed table d ss → Earlier table n d
+earlier n l no_more = tt
+earlier n l (one_more {i = i} {j = j} a p q s t) = (l, i, j, a)
 
 below_kept : {n i j : ℕ} {old new : List TreeEntry} → Kept n old new → i < n → Below old i j → Below new i j
 below_kept k l p = record { lower = p.lower; expression = subst Expression (sym (k.same _ (omega (arith, p.lower)))) p.expression }
 
-earlier_kept : {n i j : ℕ} {old new : List TreeEntry} → Kept n old new → i < n → Earlier old i j → Earlier new i j
-earlier_kept k l (inl e) = inl e
-earlier_kept k l (inr h) = inr (h.0, h.1, h.2, h.3, h.4, k.same _ (omega (arith, h.4)) ∙ h.5)
+earlier_kept : {n i : ℕ} (j : Option ℕ) {old new : List TreeEntry} → Kept n old new → i < n → Earlier old i j → Earlier new i j
+earlier_kept None k l e = tt
+earlier_kept (Some j) k l e = (e.0, e.1, e.2, k.same _ (omega (arith, e.0)) ∙ e.3)
 
 proper_kept : {sheet n i : ℕ} {old new : List TreeEntry} {x : TreeEntry} → Kept n old new → i < n → Proper sheet old i x → Proper sheet new i x
 proper_kept k l (proper_leaf a b) = proper_leaf a b
 proper_kept k l (proper_unary a p) = proper_unary a (below_kept k l p)
 proper_kept k l (proper_binary p q) = proper_binary (below_kept k l p) (below_kept k l q)
 proper_kept k l (proper_choice p q r) = proper_choice (below_kept k l p) (below_kept k l q) (below_kept k l r)
-proper_kept k l (proper_statement p q) = proper_statement (earlier_kept k l p) (below_kept k l q)
+proper_kept k l (proper_statement p q) = proper_statement (earlier_kept _ k l p) (below_kept k l q)
 
 pub proper_more : {sheet n : ℕ} {old new : List TreeEntry} (y : TreeEntry) → Kept n old new → tree_at new n ≡ y → Proper sheet new n y → AllProper sheet old n → AllProper sheet new (n + 1)
 proper_more {sheet} {n} {old} {new} y k is p all i l =
@@ -70,13 +71,13 @@ proper_more {sheet} {n} {old} {new} y k is p all i l =
     (cases_lt i n)
 
 -- one entry more
-pub before_more : {sheet n d : ℕ} {table : List TreeEntry} {fs : List OperatorEntry} {b : List Expr} {ps : List Part} (y : TreeEntry) → n < length table → Proper sheet (set table n y) n y → Before sheet table fs n d b ps → Before sheet (set table n y) fs (n + 1) d b ps
+pub before_more : {sheet n : ℕ} {d : Option ℕ} {table : List TreeEntry} {fs : List OperatorEntry} {b : List Expr} {ps : List Part} (y : TreeEntry) → n < length table → Proper sheet (set table n y) n y → Before sheet table fs n d b ps → Before sheet (set table n y) fs (n + 1) d b ps
 before_more {sheet} {n} {d} {table} y room p h =
     let k = kept_set n table y in
     record {
       frames = frames_kept (n + 1) k (omega arith) h.frames;
       ready = h.ready;
       listed = listed_kept k h.low h.listed;
-      low = omega (arith, h.low);
+      low = IfSome_then d h.low (λ i l. omega arith);
       proper = proper_more y k (set_at n table y room) p h.proper;
     }

@@ -1,5 +1,5 @@
 -- A turn at each position, and the whole run. Assumes nothing.
-use Rattle.std.proofs.Common.{◌≡◌, ℕ, ◌≤◌, List, [], ◌∷◌, ◌++◌, length, Some, None, Option, sym, refl, subst, append_assoc, append-nil, arith, MatchOption}
+use Rattle.std.proofs.Common.{◌≡◌, ℕ, ◌<◌, ◌≤◌, List, [], ◌∷◌, ◌++◌, length, IfSome, Some, None, Option, sym, refl, subst, append_assoc, append-nil, arith, MatchOption}
 use Rattle.std.proofs.lemmas.List.{length-map}
 use Rattle.parser.specs.declared.symbols.Token.{Token}
 use Rattle.parser.specs.declared.tree.TreeEntry.{TreeEntry}
@@ -17,7 +17,7 @@ use Rattle.parser.specs.Table.{Listed, no_more}
 use Rattle.parser.specs.Machine.{Ready, Part, State, start, want, after, Completes, Dead}
 use Rattle.parser.specs.Holds.{Before, Frames, no_frame, Ended, Stage, at_start, at_want, at_after, Holds, Next, Sofar}
 use Rattle.parser.specs.Reading.{token_of, tokens, Represents, NotProgram, at_end}
-use Rattle.parser.proofs.Sizes.{program_size}
+use Rattle.parser.proofs.Counting.{program_size}
 use Rattle.parser.proofs.Turns.{wants_atom, begin, finish, finished, want_more, after_more, Alive, want_alive, after_alive}
 
 module _ (sheet : ℕ) (old table : List TreeEntry) (fs gs : List OperatorEntry) (t : Token) (p : Progress) (r : Option Progress) (s : State) (b : List Expr) (ps : List Part) (h : Holds sheet old fs p s b ps) where
@@ -48,13 +48,13 @@ module _ (sheet : ℕ) (old table : List TreeEntry) (fs gs : List OperatorEntry)
 
 -- the run
 
-pub sofar_none : (sheet : ℕ) (table : List TreeEntry) (fs : List OperatorEntry) → fs ≡ [] → Sofar sheet [] table fs (record { used = 0; last = 0; position = Start })
+pub sofar_none : (sheet : ℕ) (table : List TreeEntry) (fs : List OperatorEntry) → fs ≡ [] → Sofar sheet [] table fs (record { used = 0; last = None; position = Start })
 sofar_none sheet table fs e = record {
   state = start;
   statements = [];
   parts = [];
   holds = record {
-    before = record { frames = subst (λ f. Frames sheet table 0 f []) (sym e) no_frame; ready = tt; listed = no_more; low = omega arith; proper = λ i l. absurd (omega arith) };
+    before = record { frames = subst (λ f. Frames sheet table 0 f []) (sym e) no_frame; ready = tt; listed = no_more; low = tt; proper = λ i l. absurd (omega arith) };
     stage = at_start;
   };
   means = λ rest all. (λ x. (refl, all, x, refl), λ x. subst (λ ss. Program rest ss) (sym x.3) x.2);
@@ -95,7 +95,7 @@ module _ {sheet : List ℕ} {ls : List Tok} {table : List TreeEntry} {fs : List 
               written = record { lexed = ls; lexes = l; program = program };
               only = λ other w. finish h.statements other [] ((m other).0 (subst (λ ts. Program (tokens sheet ts) other) (lexes_once sheet 0 w.lexed ls all-tokens all-tokens w.lexes l).0 w.program));
               listed = subst (λ i. Listed table i h.statements) (sym last) h.holds.before.listed;
-              low = omega (arith, h.holds.before.low);
+              low = subst (λ i. IfSome i (λ j. j < read.used)) (sym last) (subst (λ n. IfSome p.last (λ j. j < n)) (sym used) h.holds.before.low);
               few = omega arith;
               proper = λ i lt. h.holds.before.proper i (omega arith);
               small = omega (arith, program_size _ _ program, length-map ls (token_of sheet));

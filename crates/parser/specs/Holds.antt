@@ -1,5 +1,5 @@
 -- How the reader's table and stack stand for the configurations of Machine. No public contract cites it. Assumes nothing.
-use Rattle.std.specs.Prelude.{◌≡◌, ℕ, suc, ◌+◌, ◌<◌, ◌≤◌, ◌⊎◌, List, [], ◌∷◌, ◌++◌, length, Some, None, Option}
+use Rattle.std.specs.Prelude.{◌≡◌, ℕ, suc, ◌+◌, ◌<◌, ◌≤◌, ◌⊎◌, List, [], ◌∷◌, ◌++◌, length, Some, None, Option, IfSome}
 use Rattle.parser.specs.declared.symbols.Prefix.{Prefix as AnyPrefix}
 use Rattle.parser.specs.declared.symbols.Operator.{Operator}
 use Rattle.parser.specs.declared.symbols.Token.{Token}
@@ -36,15 +36,15 @@ pub data Frames (sheet : ℕ) (table : List TreeEntry) (n : ℕ) : List Operator
   a_consequent : {fs : List OperatorEntry} {ps : List Part} {i : ℕ} {a : Expr} → i < n → Tree table i a → Frames sheet table n fs ps → Frames sheet table n (Consequent i ∷ fs) (consequent a ∷ ps)
 
 -- the table and the stack hold the statements b and the open parts ps
-pub record Before (sheet : ℕ) (table : List TreeEntry) (fs : List OperatorEntry) (used last : ℕ) (b : List Expr) (ps : List Part) : Type 0 where
+pub record Before (sheet : ℕ) (table : List TreeEntry) (fs : List OperatorEntry) (used : ℕ) (last : Option ℕ) (b : List Expr) (ps : List Part) : Type 0 where
   pub frames : Frames sheet table used fs ps
   pub ready : Ready ps
   pub listed : Listed table last b
-  pub low : last ≤ used
+  pub low : IfSome last (λ i. i < used)
   pub proper : AllProper sheet table used
 
 -- the same, after the operand e, which binds as tightly as k
-pub record Ended (sheet : ℕ) (table : List TreeEntry) (fs : List OperatorEntry) (o : Operand) (last k : ℕ) (b : List Expr) (ps : List Part) (e : Expr) : Type 0 where
+pub record Ended (sheet : ℕ) (table : List TreeEntry) (fs : List OperatorEntry) (o : Operand) (last : Option ℕ) (k : ℕ) (b : List Expr) (ps : List Part) (e : Expr) : Type 0 where
   pub before : Before sheet table fs o.used last b ps
   pub fits : wants ps ≤ k
   pub low : o.at < o.used
@@ -59,7 +59,7 @@ abbrev pub Ends : Token → ℕ → Type 0
 Ends t least = (f : Follow) → follow t.symbol ≡ Some f → suc (level f) ≤ least
 
 -- what comes of an operand where the open parts that t ends are completed
-pub record AfterAll (sheet : ℕ) (table : List TreeEntry) (fs : List OperatorEntry) (o : Operand) (last k : ℕ) (b : List Expr) (ps : List Part) (e : Expr) (t : Token) : Type 0 where
+pub record AfterAll (sheet : ℕ) (table : List TreeEntry) (fs : List OperatorEntry) (o : Operand) (last : Option ℕ) (k : ℕ) (b : List Expr) (ps : List Part) (e : Expr) (t : Token) : Type 0 where
   pub tight : ℕ
   pub tree : Expr
   pub parts : List Part
@@ -68,7 +68,7 @@ pub record AfterAll (sheet : ℕ) (table : List TreeEntry) (fs : List OperatorEn
   pub same : (ts : List Token) → Same (after k e) b ps (t ∷ ts) (after tight tree) b parts (t ∷ ts)
 
 pub record Reduced (old : List TreeEntry) (fs : List OperatorEntry) (o : Operand) (least : ℕ) (new : List TreeEntry) (fs' : List OperatorEntry) (o' : Operand) : Type 0 where
-  pub turns : (sheet last k : ℕ) (b : List Expr) (ps : List Part) (e : Expr) (t : Token) → Ended sheet old fs o last k b ps e → Fits t k → Ends t least → AfterAll sheet new fs' o' last k b ps e t
+  pub turns : (sheet : ℕ) (last : Option ℕ) (k : ℕ) (b : List Expr) (ps : List Part) (e : Expr) (t : Token) → Ended sheet old fs o last k b ps e → Fits t k → Ends t least → AfterAll sheet new fs' o' last k b ps e t
 
 -- the entry of a part that ends with its operand, which stands at i
 abbrev pub completion : OperatorEntry → ℕ → Option TreeEntry

@@ -1,5 +1,5 @@
 -- What `read` answers. Assumes nothing.
-use Rattle.std.specs.Prelude.{◌≡◌, ℕ, ◌<◌, ◌≤◌, List, [], ◌∷◌, ◌++◌, map, length, Ok, Err, Result}
+use Rattle.std.specs.Prelude.{◌≡◌, ℕ, ◌<◌, ◌≤◌, List, [], ◌∷◌, ◌++◌, map, length, IfSome, Ok, Err, Result}
 use Rattle.lexer.specs.Faults.{FirstFault}
 use Rattle.lexer.specs.Reading.{Lexes, finished}
 use Rattle.lexer.specs.Scanning.{Tok, text, TokenFault}
@@ -32,7 +32,7 @@ pub record Represents (sheet : List ℕ) (tree : List TreeEntry) (read : Read) (
   pub written : Written sheet ss
   pub only : (other : List Expr) → Written sheet other → other ≡ ss
   pub listed : Listed tree read.last ss
-  pub low : read.last ≤ read.used
+  pub low : IfSome read.last (λ i. i < read.used)
   pub few : read.used ≤ 4096
   pub proper : AllProper (length sheet) tree read.used
   pub small : sizes ss ≤ 4096

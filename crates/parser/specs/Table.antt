@@ -1,5 +1,5 @@
 -- Which program a tree table stands for, and which entries are in order. Assumes nothing.
-use Rattle.std.specs.Prelude.{◌≡◌, ℕ, suc, ◌+◌, ◌<◌, ◌≤◌, ◌⊎◌, List, [], ◌∷◌, ◌++◌, slice_index_or}
+use Rattle.std.specs.Prelude.{◌≡◌, ℕ, ◌+◌, ◌<◌, ◌≤◌, List, [], ◌∷◌, ◌++◌, Some, None, Option, IfSome, slice_index_or}
 use Rattle.parser.specs.declared.symbols.Leaf.{Leaf as AnyLeaf}
 use Rattle.parser.specs.declared.symbols.Prefix.{Prefix}
 use Rattle.parser.specs.declared.symbols.Operator.{Operator}
@@ -18,10 +18,10 @@ pub data Tree (table : List TreeEntry) : ℕ → Expr → Type 0 where
   binary_at : {i j k : ℕ} {op : Operator} {a b : Expr} → tree_at table i ≡ Binary op j k → j < i → k < i → Tree table j a → Tree table k b → Tree table i (binary op a b)
   choice_at : {i j k l : ℕ} {a b c : Expr} → tree_at table i ≡ Choice j k l → j < i → k < i → l < i → Tree table j a → Tree table k b → Tree table l c → Tree table i (choice a b c)
 
--- the entry before i is the last of the statements ss
-pub data Listed (table : List TreeEntry) : ℕ → List Expr → Type 0 where
-  no_more : Listed table 0 []
-  one_more : {i j k : ℕ} {ss : List Expr} {e : Expr} → tree_at table k ≡ Statement i j → i ≤ k → j < k → Listed table i ss → Tree table j e → Listed table (suc k) (ss ++ e ∷ [])
+-- the statement at an index, if there is one, is the last of the statements ss
+pub data Listed (table : List TreeEntry) : Option ℕ → List Expr → Type 0 where
+  no_more : Listed table None []
+  one_more : {i : Option ℕ} {j k : ℕ} {ss : List Expr} {e : Expr} → tree_at table k ≡ Statement i j → IfSome i (λ h. h < k) → j < k → Listed table i ss → Tree table j e → Listed table (Some k) (ss ++ e ∷ [])
 
 -- the entry is an expression's
 pub data Expression : TreeEntry → Type 0 where
@@ -35,9 +35,9 @@ pub record Part (table : List TreeEntry) (i j : ℕ) : Type 0 where
   pub lower : j < i
   pub expression : Expression (tree_at table j)
 
--- there is no statement before, or the entry before j is one, and lower than i
-abbrev pub Earlier : List TreeEntry → ℕ → ℕ → Type 0
-Earlier table i j = (j ≡ 0) ⊎ ((k m n : ℕ) × (j ≡ suc k) × (k < i) × (tree_at table k ≡ Statement m n))
+-- the entry at j, if j is an index, is a statement, and lower than i
+abbrev pub Earlier : List TreeEntry → ℕ → Option ℕ → Type 0
+Earlier table i j = IfSome j (λ k. (k < i) × (m : Option ℕ) × (n : ℕ) × (tree_at table k ≡ Statement m n))
 
 -- the entry e at i is of a known kind, its places lie in a sheet of this size, and its parts are lower
 pub data Proper (sheet : ℕ) (table : List TreeEntry) (i : ℕ) : TreeEntry → Type 0 where
@@ -45,7 +45,7 @@ pub data Proper (sheet : ℕ) (table : List TreeEntry) (i : ℕ) : TreeEntry →
   proper_unary : {op : Prefix} {p j : ℕ} → p < sheet → Part table i j → Proper sheet table i (Unary op p j)
   proper_binary : {op : Operator} {j k : ℕ} → Part table i j → Part table i k → Proper sheet table i (Binary op j k)
   proper_choice : {j k l : ℕ} → Part table i j → Part table i k → Part table i l → Proper sheet table i (Choice j k l)
-  proper_statement : {j k : ℕ} → Earlier table i j → Part table i k → Proper sheet table i (Statement j k)
+  proper_statement : {j : Option ℕ} {k : ℕ} → Earlier table i j → Part table i k → Proper sheet table i (Statement j k)
 
 -- the first n entries are
 abbrev pub AllProper : ℕ → List TreeEntry → ℕ → Type 0

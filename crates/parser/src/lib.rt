@@ -1,36 +1,26 @@
 // Reads a sheet into a table of tree entries.
 #![tactic(auto)]
 
-ghost use Rattle.std.specs.Prelude.{length, Decides};
-ghost use Rattle.parser.specs.Reading.{Short, Reads};
+ghost use Rattle.std.specs.Prelude.{length};
+ghost use Rattle.parser.specs.Reading.{Reads};
 
 mod operand;
 mod parse;
 mod progress;
 pub mod reading;
+pub mod sizes;
 mod steps;
 pub mod symbols;
 mod tokens;
 pub mod tree;
 
 use crate::parse::parse;
+use crate::sizes::is_short;
 use crate::tree::{OperatorEntry, TreeEntry, WalkFrame};
 use lexer::reasons::Reason;
 use lexer::refusal::Refusal;
 use lexer::scan::scan;
 use types::entries::TypeEntry;
-
-// How long the tables that a call lends have to be.
-const ENTRIES: usize = 4096;
-
-const TYPES: usize = 8192;
-
-// Whether one of the tables, by their lengths, is under its size.
-fn is_short(tree: usize, operators: usize, frames: usize, types: usize) -> bool
-    ensures { Decides result (Short (record { of_tree = tree; of_operators = operators; of_frames = frames; of_types = types })) }
-{
-    tree < ENTRIES || operators < ENTRIES || frames < ENTRIES || types < TYPES
-}
 
 // Reads a sheet into the tree table. The other tables are those that a check of the sheet takes, and what they hold after
 // is free.
@@ -49,8 +39,6 @@ pub fn read(
             place: 0,
         });
     }
-    match scan(sheet) {
-        Ok(_) => parse(sheet, tree, operators),
-        Err(e) => Err(e),
-    }
+    scan(sheet)?;
+    parse(sheet, tree, operators)
 }

@@ -22,13 +22,15 @@ use lexer::refusal::Refusal;
 use stack::Stack;
 
 // A token as the grammar has it.
-fn token_of(found: read::Token) -> Token
-    ensures { result ≡ record { symbol = symbol_of found.entry.kind found.entry.text.now; place = found.entry.at; len = length found.entry.text.now } }
-{
-    Token {
-        symbol: symbol_of(found.kind, found.text),
-        place: found.at,
-        len: found.text.len(),
+impl From<read::Token<'_>> for Token {
+    ghost from_gives = { λ found t. t ≡ record { symbol = symbol_of found.kind found.text.now; place = found.at; len = length found.text.now } };
+
+    fn from(found: read::Token<'_>) -> Token {
+        Token {
+            symbol: symbol_of(found.kind, found.text),
+            place: found.at,
+            len: found.text.len(),
+        }
     }
 }
 
@@ -60,24 +62,14 @@ pub fn parse(
     let mut stack = Stack::new(operators);
     let mut p = Progress {
         used: 0,
-        last: 0,
+        last: None,
         position: Position::Start,
     };
-    loop {
-        match reader.next() {
-            Ok(found) => match found {
-                Some(t) => match step(tree, &mut stack, p, token_of(t)) {
-                    Some(next) => p = next,
-                    None => {
-                        return Err(Refusal {
-                            reason: Reason::NoProgram,
-                            place: t.at,
-                        });
-                    }
-                },
-                None => return finish(p, sheet.len()),
-            },
-            Err(e) => return Err(e),
-        }
+    while let Some(t) = reader.next()? {
+        p = step(tree, &mut stack, p, t.into()).ok_or(Refusal {
+            reason: Reason::NoProgram,
+            place: t.at,
+        })?;
     }
+    finish(p, sheet.len())
 }

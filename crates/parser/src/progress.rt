@@ -18,10 +18,10 @@ pub enum Position {
     After(usize),
 }
 
-// The entries in use, the index after that of the last statement that ended, or 0, and what was seen last.
+// The entries in use, the index of the last statement that has ended, if there is one, and what was seen last.
 #[derive(Clone, Copy)]
 pub struct Progress {
     pub used: usize,
-    pub last: usize,
+    pub last: Option<usize>,
     pub position: Position,
 }

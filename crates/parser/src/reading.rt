@@ -1,15 +1,15 @@
 // What a call of `read` gives.
 ghost use Rattle.std.specs.Prelude.{◌≡◌};
 
-// The program that a tree table holds: how many entries are in use, and the index after that of the last statement, or 0.
+// The program that a tree table holds: how many entries are in use, and the index of the last statement, if there is one.
 #[derive(Drop)]
 pub struct Read {
     used: usize,
-    last: usize,
+    last: Option<usize>,
 }
 
 impl Read {
-    pub(crate) fn new(used: usize, last: usize) -> Read
+    pub(crate) fn new(used: usize, last: Option<usize>) -> Read
         ensures { result ≡ record { used = used; last = last } }
     {
         Read { used, last }
@@ -22,8 +22,8 @@ impl Read {
         self.used
     }
 
-    // The index after that of the last statement, or 0.
-    pub fn last(&self) -> usize
+    // The index of the last statement; `None` where there is none.
+    pub fn last(&self) -> Option<usize>
         ensures { result ≡ self.now.last }
     {
         self.last

@@ -9,7 +9,7 @@ ghost use Rattle.parser.specs.declared.symbols.Token.{Token as AnyToken};
 ghost use Rattle.parser.specs.declared.tree.TreeEntry.{TreeEntry as AnyEntry};
 ghost use Rattle.parser.specs.declared.tree.OperatorEntry.TheVariants.{Consequent};
 
-use crate::operand::{before_of, follow_of, level_of, reduce};
+use crate::operand::reduce;
 use crate::progress::{Operand, Position, Progress};
 use crate::symbols::{Follow, Symbol, Token};
 use crate::tree::{OperatorEntry, TreeEntry};
@@ -37,8 +37,8 @@ fn operand(
             };
             Some(Progress {
                 used: p.used + 1,
-                last: p.last,
                 position: Position::After(p.used),
+                ..p
             })
         }
         Symbol::Open => {
@@ -48,38 +48,54 @@ fn operand(
                 ..p
             })
         }
-        _ => match before_of(t.symbol) {
-            Some(operator) => {
-                stack.push(OperatorEntry::Prefix {
-                    operator,
-                    place: t.place,
-                });
-                Some(Progress {
-                    position: Position::Want,
-                    ..p
-                })
-            }
-            None => None,
-        },
+        _ => {
+            let operator = t.symbol.before()?;
+            stack.push(OperatorEntry::Prefix {
+                operator,
+                place: t.place,
+            });
+            Some(Progress {
+                position: Position::Want,
+                ..p
+            })
+        }
     }
 }
 
-// A token after the first branch of a choice, whose part has been taken off.
-fn chosen(
+// A token that does not go on, after an operand with no part on top that ends with it.
+fn close(
+    table: &mut [TreeEntry],
     stack: &mut Stack<OperatorEntry>,
     o: Operand,
-    last: usize,
-    test: usize,
+    last: Option<usize>,
     t: Token,
 ) -> Option<Progress>
+    requires fits { o.used + length (held stack.old) < length table.old }
     requires room { length (held stack.old) < room stack.old }
+    requires lower { Lower 0 (held stack.old) }
     requires ends { follow t.symbol ≡ None }
-    ensures turns { (sheet : ℕ) (table : List AnyEntry) (b : List Expr) (ps : List Part) (k : ℕ) (e : Expr) → Ended sheet table (Consequent test ∷ held stack.old) o last k b ps e → MatchOption result (Dead (after k e) b ps t) (λ n. Next sheet table (held stack.new) n (after k e) b ps t) }
+    ensures turns { (sheet : ℕ) (b : List Expr) (ps : List Part) (k : ℕ) (e : Expr) → Ended sheet table.old (held stack.old) o last k b ps e → MatchOption result (Dead (after k e) b ps t) (λ n. Next sheet table.new (held stack.new) n (after k e) b ps t) }
     ensures uses { MatchOption result (Unit {0}) (λ n. n.used + length (held stack.new) ≤ o.used + length (held stack.old) + 1) }
     ensures space { room stack.new ≡ room stack.old }
 {
-    match t.symbol {
-        Symbol::Colon => {
+    match (stack.pop(), t.symbol) {
+        (None, Symbol::Semicolon) => {
+            table[o.used] = TreeEntry::Statement {
+                before: last,
+                expression: o.at,
+            };
+            Some(Progress {
+                used: o.used + 1,
+                last: Some(o.used),
+                position: Position::Start,
+            })
+        }
+        (Some(OperatorEntry::Bracket), Symbol::Close) => Some(Progress {
+            used: o.used,
+            last,
+            position: Position::After(o.at),
+        }),
+        (Some(OperatorEntry::Consequent { test }), Symbol::Colon) => {
             stack.push(OperatorEntry::Otherwise { test, then: o.at });
             Some(Progress {
                 used: o.used,
@@ -91,54 +107,8 @@ fn chosen(
     }
 }
 
-// A token that does not go on, after an operand with no part on top that ends with it.
-fn close(
-    table: &mut [TreeEntry],
-    stack: &mut Stack<OperatorEntry>,
-    o: Operand,
-    last: usize,
-    t: Token,
-) -> Option<Progress>
-    requires fits { o.used + length (held stack.old) < length table.old }
-    requires room { length (held stack.old) < room stack.old }
-    requires lower { Lower 0 (held stack.old) }
-    requires ends { follow t.symbol ≡ None }
-    ensures turns { (sheet : ℕ) (b : List Expr) (ps : List Part) (k : ℕ) (e : Expr) → Ended sheet table.old (held stack.old) o last k b ps e → MatchOption result (Dead (after k e) b ps t) (λ n. Next sheet table.new (held stack.new) n (after k e) b ps t) }
-    ensures uses { MatchOption result (Unit {0}) (λ n. n.used + length (held stack.new) ≤ o.used + length (held stack.old) + 1) }
-    ensures space { room stack.new ≡ room stack.old }
-{
-    let Some(top) = stack.pop() else {
-        return match t.symbol {
-            Symbol::Semicolon => {
-                table[o.used] = TreeEntry::Statement {
-                    before: last,
-                    expression: o.at,
-                };
-                Some(Progress {
-                    used: o.used + 1,
-                    last: o.used + 1,
-                    position: Position::Start,
-                })
-            }
-            _ => None,
-        };
-    };
-    match top {
-        OperatorEntry::Bracket => match t.symbol {
-            Symbol::Close => Some(Progress {
-                used: o.used,
-                last,
-                position: Position::After(o.at),
-            }),
-            _ => None,
-        },
-        OperatorEntry::Consequent { test } => chosen(stack, o, last, test, t),
-        _ => None,
-    }
-}
-
 // The part that goes on from an operand.
-fn open(stack: &mut Stack<OperatorEntry>, o: Operand, last: usize, f: Follow) -> Progress
+fn open(stack: &mut Stack<OperatorEntry>, o: Operand, last: Option<usize>, f: Follow) -> Progress
     requires room { length (held stack.old) < room stack.old }
     ensures turns { (sheet : ℕ) (table : List AnyEntry) (b : List Expr) (ps : List Part) (k : ℕ) (e : Expr) (t : AnyToken) → follow t.symbol ≡ Some f → wants ps ≤ level f → left f ≤ k → Ended sheet table (held stack.old) o last k b ps e → Next sheet table (held stack.new) result (after k e) b ps t }
     ensures uses { result.used + length (held stack.new) ≡ o.used + length (held stack.old) + 1 }
@@ -172,9 +142,9 @@ fn follow(
     ensures uses { MatchOption result (Unit {0}) (λ n. n.used + length (held stack.new) ≤ p.used + length (held stack.old) + 1) }
     ensures space { room stack.new ≡ room stack.old }
 {
-    match follow_of(t.symbol) {
+    match t.symbol.follow() {
         Some(f) => {
-            let o = reduce(table, stack, Operand { at, used: p.used }, level_of(f) + 1);
+            let o = reduce(table, stack, Operand { at, used: p.used }, f.level() + 1);
             Some(open(stack, o, p.last, f))
         }
         None => {
@@ -198,8 +168,7 @@ pub fn step(
     ensures space { room stack.new ≡ room stack.old }
 {
     match p.position {
-        Position::Start => operand(table, stack, p, t),
-        Position::Want => operand(table, stack, p, t),
+        Position::Start | Position::Want => operand(table, stack, p, t),
         Position::After(at) => follow(table, stack, p, at, t),
     }
 }

@@ -1,4 +1,7 @@
 // The tree table and the stacks.
+ghost use Rattle.std.specs.Prelude.{◌≡◌};
+ghost use Rattle.parser.specs.Holds.{awaits, completion};
+
 use crate::symbols::{Leaf, Operator, Prefix};
 use types::entries::TypeEntry;
 
@@ -28,9 +31,9 @@ pub enum TreeEntry {
         then: usize,
         other: usize,
     },
-    // an expression and a semicolon; `before` is the index after that of the statement before it, or 0
+    // an expression and a semicolon; `before` is the index of the statement before it, if there is one
     Statement {
-        before: usize,
+        before: Option<usize>,
         expression: usize,
     },
 }
@@ -54,12 +57,49 @@ pub enum OperatorEntry {
     Operand { place: usize, entry: TypeEntry },
 }
 
+impl OperatorEntry {
+    // How tightly the operand that the part waits for binds.
+    pub(crate) fn awaits(self) -> usize
+        ensures { result ≡ awaits self }
+    {
+        match self {
+            OperatorEntry::Infix { operator, .. } => operator.binding() + 1,
+            OperatorEntry::Prefix { .. } => 8,
+            _ => 0,
+        }
+    }
+
+    // The entry of a part that ends with its operand, which stands at `at`.
+    pub(crate) fn completed(self, at: usize) -> Option<TreeEntry>
+        ensures { result ≡ completion self at }
+    {
+        match self {
+            OperatorEntry::Infix { operator, left } => Some(TreeEntry::Binary {
+                operator,
+                left,
+                right: at,
+            }),
+            OperatorEntry::Prefix { operator, place } => Some(TreeEntry::Unary {
+                operator,
+                place,
+                operand: at,
+            }),
+            OperatorEntry::Otherwise { test, then } => Some(TreeEntry::Choice {
+                test,
+                then,
+                other: at,
+            }),
+            _ => None,
+        }
+    }
+}
+
 // One entry of the stack of a check: what is still to be done, the next on top.
 #[derive(Clone, Copy)]
 pub enum WalkFrame {
     Blank,
-    // the statements up to the one before this index
-    Statements(usize),
+    // the statement at an index, if there is one, and those before it
+    Statements(Option<usize>),
     // the expression at an index
     Expression(usize),
     // an operator, with its place, whose operand is finished

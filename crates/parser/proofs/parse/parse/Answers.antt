@@ -1,53 +1,62 @@
-use Rattle.std.proofs.Common.{refl, ◌∙◌, arith}
+use Rattle.std.proofs.Common.{◌≡◌, Some, None, refl, ◌∙◌, arith}
+use Rattle.std.proofs.lemmas.Option.{MatchOption-at_none, MatchOption-at_some}
+use Rattle.std.proofs.lemmas.Result.{err_from_is_err_and}
 use Rattle.lexer.proofs.Steps.{onward, given, finished_at, stopped_at}
+use Rattle.lexer.specs.declared.reasons.Reason.TheVariants.{NoProgram}
 use Rattle.parser.proofs.Lexing.{not_all, lies_within, along_none, along_more, refused_here, all_read, all_along, not_stopped}
 use Rattle.parser.proofs.parse.parse.Goals as goal
 
-pub loop-found-init : goal.loop-found-init
-loop-found-init c = (refl, omega arith, refl, λ ls l. along_none _ ls _ _ c.new-stack.ensures.none l)
+pub loop-t-init : goal.loop-t-init
+loop-t-init c = (refl, omega arith, refl, λ ls l. along_none _ ls _ _ c.new-stack.ensures.none l)
 
 pub step-requires : goal.step-requires
 step-requires c =
     let clean = c.requires.clean.1 in
-    let g = given c.loop-found.invariant.0 _ _ c.in-Some.is c.in-Ok.ensures.reads in
-    let more = not_all _ g _ c.token_of.ensures (c.loop-found.invariant.3 clean.tokens clean.lexes) in
+    let g = given c.loop-t.invariant.0 _ _ c.in-Some.is c.in_ok-t.ensures.reads in
+    let more = not_all _ g _ c.into.ensures (c.loop-t.invariant.3 clean.tokens clean.lexes) in
     record {
       fits = omega (arith, more, clean.count, clean.few, c.requires.entries);
-      room = omega (arith, more, clean.count, clean.few, c.requires.pending, c.loop-found.invariant.2, c.new-stack.ensures.space);
+      room = omega (arith, more, clean.count, clean.few, c.requires.pending, c.loop-t.invariant.2, c.new-stack.ensures.space);
     }
 
-pub loop-found-smaller : goal.loop-found-smaller
-loop-found-smaller c =
-    let on = onward _ _ _ _ c.loop-found.invariant.1 (given c.loop-found.invariant.0 _ _ c.in-Some.is c.in-Ok.ensures.reads) in
+pub loop-t-smaller : goal.loop-t-smaller
+loop-t-smaller c =
+    let on = onward _ _ _ _ c.loop-t.invariant.1 (given c.loop-t.invariant.0 _ _ c.in-Some.is c.in_ok-t.ensures.reads) in
     omega arith
 
-pub loop-found-preserved : goal.loop-found-preserved
-loop-found-preserved c =
-    let g = given c.loop-found.invariant.0 _ _ c.in-Some.is c.in-Ok.ensures.reads in
-    let told = c.in-Some-step.ensures in (
-      c.in-Ok.ensures.sheet ∙ c.loop-found.invariant.0,
-      (onward _ _ _ _ c.loop-found.invariant.1 g).1,
-      told.space ∙ c.loop-found.invariant.2,
+pub loop-t-preserved : goal.loop-t-preserved
+loop-t-preserved c =
+    let g = given c.loop-t.invariant.0 _ _ c.in-Some.is c.in_ok-t.ensures.reads in
+    let went : c.step.result ≡ Some c.in_ok-p.p = grind (arith, c.in_ok-p.ensures) in (
+      c.in_ok-t.ensures.sheet ∙ c.loop-t.invariant.0,
+      (onward _ _ _ _ c.loop-t.invariant.1 g).1,
+      c.step.ensures.space ∙ c.loop-t.invariant.2,
       λ ls l.
-          let h = c.loop-found.invariant.3 ls l in
-          along_more _ g _ c.token_of.ensures h (told.turns _ _ _ _ (lies_within _ g _ c.token_of.ensures h) h.sofar.holds) told.uses,
+          let h = c.loop-t.invariant.3 ls l in
+          along_more _ g _ c.into.ensures h
+          (MatchOption-at_some _ _ c.in_ok-p.p went (c.step.ensures.turns _ _ _ _ (lies_within _ g _ c.into.ensures h) h.sofar.holds))
+          (MatchOption-at_some _ _ c.in_ok-p.p went c.step.ensures.uses),
     )
 
-pub returns-in-None-step : goal.returns-in-None-step
-returns-in-None-step c =
+pub returns-in_err-p : goal.returns-in_err-p
+returns-in_err-p c =
     let clean = c.requires.clean.1 in
-    let g = given c.loop-found.invariant.0 _ _ c.in-Some.is c.in-Ok.ensures.reads in
-    let h = c.loop-found.invariant.3 clean.tokens clean.lexes in
-    (refl, refused_here _ g _ c.token_of.ensures h clean.lexes (c.in-None-step.ensures.turns _ _ _ _ (lies_within _ g _ c.token_of.ensures h) h.sofar.holds))
+    let g = given c.loop-t.invariant.0 _ _ c.in-Some.is c.in_ok-t.ensures.reads in
+    let h = c.loop-t.invariant.3 clean.tokens clean.lexes in
+    let stuck : c.step.result ≡ None = grind (arith, c.in_err-p.ensures) in
+    let told : c.in_err-p.field-0.0 ≡ record { reason = NoProgram; place = c.in-Some.t.at } = grind (arith, c.in_err-p.ensures) in
+    let dead = refused_here _ g _ c.into.ensures h clean.lexes (MatchOption-at_none _ _ stuck (c.step.ensures.turns _ _ _ _ (lies_within _ g _ c.into.ensures h) h.sofar.holds)) in
+    let p = err_from_is_err_and c.from_residual-in_err-p.result c.from_residual-in_err-p.ensures.1 in
+    rw (p.1, p.2, told) (refl, dead)
 
-pub returns-in-None : goal.returns-in-None
-returns-in-None c =
+pub returns-in_err-t : goal.returns-in_err-t
+returns-in_err-t c =
     let clean = c.requires.clean.1 in
-    let h = c.loop-found.invariant.3 clean.tokens clean.lexes in
-    let all = all_read (finished_at c.loop-found.invariant.0 _ _ c.in-None.is c.in-Ok.ensures.reads) h in
+    not_stopped _ (stopped_at c.loop-t.invariant.0 c.in_err-t.ensures.reads.0) (c.loop-t.invariant.3 clean.tokens clean.lexes)
+
+pub returns : goal.returns
+returns c =
+    let clean = c.requires.clean.1 in
+    let h = c.loop-t.invariant.3 clean.tokens clean.lexes in
+    let all = all_read (finished_at c.loop-t.invariant.0 _ _ c.in_default.is c.in_ok-t.ensures.reads) h in
     all_along h all (c.finish.ensures _ _ _ clean.tokens refl clean.lexes (omega (arith, clean.count, clean.few)))
-
-pub returns-in-Err : goal.returns-in-Err
-returns-in-Err c =
-    let clean = c.requires.clean.1 in
-    not_stopped _ (stopped_at c.loop-found.invariant.0 c.in-Err.ensures.reads.0) (c.loop-found.invariant.3 clean.tokens clean.lexes)

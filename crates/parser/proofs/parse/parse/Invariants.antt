@@ -5,12 +5,12 @@ use Rattle.stack.specs.Items.{held, room}
 use Rattle.parser.proofs.Lexing.{Along}
 use Rattle.parser.proofs.parse.parse.Given as goal
 
-abbrev pub invariant-loop-found : goal.invariant-loop-found
-invariant-loop-found l =
+abbrev pub invariant-loop-t : goal.invariant-loop-t
+invariant-loop-t l =
     (l.reader.sheet.now ≡ l.sheet)
     × (l.reader.at ≤ length l.sheet)
     × (room l.stack ≡ room l.initial.stack)
     × ((ls : List Tok) → Lexes l.sheet 0 ls finished → Along l.sheet ls l.reader.at l.tree (held l.stack) l.p)
 
-abbrev pub decreases-loop-found : goal.decreases-loop-found
-decreases-loop-found l = length l.sheet - l.reader.at
+abbrev pub decreases-loop-t : goal.decreases-loop-t
+decreases-loop-t l = length l.sheet - l.reader.at

@@ -5,7 +5,7 @@ use Rattle.parser.proofs.steps.follow.Goals as goal
 
 pub returns-in-Some : goal.returns-in-Some
 returns-in-Some c = record {
-  turns = λ sheet b ps e h. goes_on_at _ _ _ c.in-Some.ensures c.level_of.ensures.value c.reduce-o.ensures.reduced c.reduce-o.ensures.lower h (c.open.ensures.turns sheet _ b);
+  turns = λ sheet b ps e h. goes_on_at _ _ _ c.in-Some.ensures c.level.ensures.value c.reduce-o.ensures.reduced c.reduce-o.ensures.lower h (c.open.ensures.turns sheet _ b);
   uses = omega (arith, c.reduce-o.ensures.uses, c.open.ensures.uses);
   space = c.open.ensures.space ∙ c.reduce-o.ensures.space;
 }

@@ -11,18 +11,18 @@ returns-in-Open c =
     let held = c.push.ensures.holds c.requires.room in
     record { turns = λ sheet b ps w h. step_open _ c.in-Open.is held h; uses = omega (arith, ap length held); space = c.push.ensures.space }
 
-pub returns-in-Some : goal.returns-in-Some
-returns-in-Some c =
-    let held = c.push-in-Some.ensures.holds c.requires.room in
+pub returns-in_ok-operator-in_default : goal.returns-in_ok-operator-in_default
+returns-in_ok-operator-in_default c =
+    let held = c.push-in_default.ensures.holds c.requires.room in
     record {
-      turns = λ sheet b ps w h. step_prefix _ _ c.in-Some.ensures (no_leaf _ c.in_default.not-Leaf) w held h;
+      turns = λ sheet b ps w h. step_prefix _ _ c.in_ok-operator-in_default.ensures (no_leaf _ c.in_default.not-Leaf) w held h;
       uses = omega (arith, ap length held);
-      space = c.push-in-Some.ensures.space;
+      space = c.push-in_default.ensures.space;
     }
 
-pub returns-in-None : goal.returns-in-None
-returns-in-None c = record {
-  turns = λ sheet b ps w h. no_operand b ps _ (no_leaf _ c.in_default.not-Leaf) c.in_default.not-Open (sym c.in-None.ensures);
+pub returns-in_err-operator-in_default : goal.returns-in_err-operator-in_default
+returns-in_err-operator-in_default c = rw c.from_residual.ensures record {
+  turns = λ sheet b ps w h. no_operand b ps _ (no_leaf _ c.in_default.not-Leaf) c.in_default.not-Open (sym c.in_err-operator-in_default.ensures);
   uses = tt;
   space = refl;
 }
