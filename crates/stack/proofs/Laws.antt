@@ -1,7 +1,7 @@
 -- One entry more, and some less, of what a stack holds. Assumes nothing.
-use Rattle.std.proofs.Common.{◌≡◌, ℕ, ◌+◌, ◌-◌, ◌<◌, ◌≤◌, min, List, [], ◌∷◌, ◌++◌, reverse, length, get_or, take, set, sym, ap, ◌∙◌, ⊎_elim, arith, length-append, length-take}
+use Rattle.std.proofs.Common.{◌≡◌, ℕ, ◌+◌, ◌<◌, ◌≤◌, min, List, [], ◌∷◌, ◌++◌, reverse, length, get_or, take, set, sym, ap, ◌∙◌, ⊎_elim, arith, length-append, length-take}
 use mathlib.Core.List.{reverse_aux-append}
-use Rattle.std.proofs.lemmas.List.{take_more, take_more_set, take_all, take-take, take_at, length-reverse, reverse-append, reverse-reverse, nil_from_length}
+use Rattle.std.proofs.lemmas.List.{take_more, take_more_set, take_min, take-take, take_at, length-reverse, reverse-append, reverse-reverse, nil_from_length}
 use Rattle.std.proofs.lemmas.Bool.{cases_lt}
 use Rattle.stack.specs.Items.{items}
 
@@ -20,37 +20,37 @@ items_push xs n x h = ap reverse (take_more_set xs n x h) ∙ reverse_aux-append
 -- past the slots, there is no more
 pub items_all : {T : Type 0} (xs : List T) (n m : ℕ) → m ≡ length (items xs n) → items xs n ≡ items xs m
 unfolding items
-items_all xs n m e = ap reverse (go n m (e ∙ items_length xs n))
-  where
-    go : (n m : ℕ) → m ≡ min n (length xs) → take n xs ≡ take m xs
-    go n m e =
-        ⊎_elim
-        (λ h. let same : n ≡ m = omega arith in ap (λ k. take k xs) same)
-        (λ h. take_all n xs h ∙ sym (take_all m xs (omega arith)))
-        (cases_lt n (length xs))
+items_all xs n m e = ap reverse (sym (take_min n xs)) ∙ ap (λ k. reverse (take k xs)) (sym (e ∙ items_length xs n))
 
-pub items_pop : {T : Type 0} (xs : List T) (n : ℕ) (d : T) → 0 < n → n ≤ length xs → items xs n ≡ get_or xs (n - 1) d ∷ items xs (n - 1)
+-- the top entry, and those below it
+pub items_top : {T : Type 0} (xs : List T) (len n : ℕ) (d : T) → length (items xs len) ≡ n + 1 → items xs len ≡ get_or xs n d ∷ items xs n
 unfolding items
-items_pop xs n d h k =
-    let back : n ≡ n - 1 + 1 = omega arith in
-    ap (λ m. reverse (take m xs)) back ∙ (ap reverse (take_more xs (n - 1) d (omega arith)) ∙ reverse_aux-append (take (n - 1) xs) (get_or xs (n - 1) d ∷ []) [])
+items_top xs len n d e =
+    items_all xs len (n + 1) (sym e) ∙
+    (ap reverse (take_more xs n d (omega (arith, items_length xs len))) ∙ reverse_aux-append (take n xs) (get_or xs n d ∷ []) [])
 
 -- the n entries at the bottom
-pub items_cut : {T : Type 0} (slots : List T) (len n : ℕ) (xs ys : List T) → items slots len ≡ xs ++ ys → length ys ≡ n → n < len → items slots n ≡ ys
+items_low : {T : Type 0} (slots : List T) (len n : ℕ) (xs ys : List T) → items slots len ≡ xs ++ ys → length ys ≡ n → n < len → items slots n ≡ ys
 unfolding items
-items_cut slots len n xs ys e h k =
+items_low slots len n xs ys e h k =
     let turned : take len slots ≡ reverse ys ++ reverse xs = sym (reverse-reverse (take len slots)) ∙ (ap reverse e ∙ reverse-append xs ys) in
     let low : take n slots ≡ reverse ys =
     sym (take-take n len slots (omega arith)) ∙ (ap (take n) turned ∙ take_at (reverse ys) (reverse xs) n (length-reverse ys ∙ h)) in
     ap reverse low ∙ reverse-reverse ys
 
 -- there are no more than n
-pub items_whole : {T : Type 0} (slots : List T) (len n : ℕ) (xs ys : List T) → items slots len ≡ xs ++ ys → length ys ≡ n → len ≤ n → items slots len ≡ ys
+items_whole : {T : Type 0} (slots : List T) (len n : ℕ) (xs ys : List T) → items slots len ≡ xs ++ ys → length ys ≡ n → len ≤ n → items slots len ≡ ys
 items_whole slots len n xs ys e h k =
     let none : xs ≡ [] = nil_from_length xs (omega (arith, length-append xs ys, ap length e, items_length slots len)) in
     e ∙ ap (λ l. l ++ ys) none
 
--- what the top is, by how many entries are held
-pub items_top : {T : Type 0} (xs : List T) (len n : ℕ) (x : T) → n ≡ length (items xs len) → 0 < n → x ≡ get_or xs (n - 1) x → (rest : List T) × (items xs len ≡ x ∷ rest)
-items_top xs len n x is h e =
-    (items xs (n - 1), items_all xs len n is ∙ (items_pop xs n x h (omega (arith, items_length xs len)) ∙ ap (λ y. y ∷ items xs (n - 1)) (sym e)))
+-- the n entries at the bottom, where there are so many
+pub items_cut : {T : Type 0} (slots : List T) (len n m : ℕ) (xs ys : List T) → m ≡ min len n → items slots len ≡ xs ++ ys → length ys ≡ n → items slots m ≡ ys
+items_cut slots len n m xs ys is e h =
+    ⊎_elim
+    (λ k. let low : m ≡ n = omega arith in ap (items slots) low ∙ items_low slots len n xs ys e h k)
+    (λ k. let all : m ≡ len = omega arith in ap (items slots) all ∙ items_whole slots len n xs ys e h k)
+    (cases_lt n len)
+
+-- the facts that the stack's functions need
+pub ruleset stacked = (items_length, items_none, items_push, items_top, items_cut)

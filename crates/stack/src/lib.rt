@@ -1,7 +1,7 @@
 // A stack over a lent slice, for every kind of entry. No call asks anything of its caller.
 #![tactic(auto)]
 
-ghost use Rattle.std.specs.Prelude.{◌≡◌, ◌<◌, List, [], ◌∷◌, ◌++◌, length, MatchOption};
+ghost use Rattle.std.specs.Prelude.{◌≡◌, ◌<◌, ◌≤◌, List, [], ◌∷◌, ◌++◌, length, MatchOption};
 ghost use Rattle.stack.specs.Items.{held, room};
 
 #[derive(Drop)]
@@ -10,6 +10,7 @@ pub struct Stack<'a, T> {
     pub len: usize,
 }
 
+#[tactic(auto, using(crate::proofs::Laws::stacked))]
 impl<'a, T: Copy> Stack<'a, T> {
     pub fn new(slots: &'a mut [T]) -> Self
         ensures none { held result ≡ [] }
@@ -18,15 +19,16 @@ impl<'a, T: Copy> Stack<'a, T> {
         Stack { slots, len: 0 }
     }
 
-    // One entry more on top, where there is room.
+    // One entry more on top, where there is room; nothing where there is none.
     pub fn push(&mut self, x: T)
         ensures holds { length (held self.old) < room self.old → held self.new ≡ x ∷ held self.old }
+        ensures full { room self.old ≤ length (held self.old) → held self.new ≡ held self.old }
         ensures space { room self.new ≡ room self.old }
     {
-        let at = self.len;
-        if at < self.slots.len() {
-            self.slots[at] = x;
-            self.len = at + 1;
+        // `get_mut` does not say what a write through it leaves in the slots
+        if self.len < self.slots.len() {
+            self.slots[self.len] = x;
+            self.len += 1;
         }
     }
 
@@ -35,32 +37,25 @@ impl<'a, T: Copy> Stack<'a, T> {
         ensures holds { MatchOption result ((held self.old ≡ []) × (held self.new ≡ [])) (λ x. held self.old ≡ x ∷ held self.new) }
         ensures space { room self.new ≡ room self.old }
     {
-        let n = self.depth();
-        if n == 0 {
-            return None;
-        }
-        self.len = n - 1;
-        Some(self.slots[n - 1])
+        let n = self.depth().checked_sub(1)?;
+        let x = self.slots[n];
+        self.len = n;
+        Some(x)
     }
 
     // The top entry, left where it is; `None` where there is none.
     pub fn top(&self) -> Option<T>
         ensures { MatchOption result (held self.now ≡ []) (λ x. ((rest : List T) × (held self.now ≡ x ∷ rest))) }
     {
-        let n = self.depth();
-        if n == 0 {
-            return None;
-        }
-        let slots = &*self.slots;
-        Some(slots[n - 1])
+        let n = self.depth().checked_sub(1)?;
+        Some(self.slots[n])
     }
 
     // How many entries it holds.
     pub fn depth(&self) -> usize
         ensures { result ≡ length (held self.now) }
     {
-        let all = self.slots.len();
-        if self.len < all { self.len } else { all }
+        self.len.min(self.slots.len())
     }
 
     // Takes entries off until n are left.
@@ -68,8 +63,6 @@ impl<'a, T: Copy> Stack<'a, T> {
         ensures holds { (xs ys : List T) → held self.old ≡ xs ++ ys → length ys ≡ n → held self.new ≡ ys }
         ensures space { room self.new ≡ room self.old }
     {
-        if n < self.len {
-            self.len = n;
-        }
+        self.len = self.len.min(n);
     }
 }
