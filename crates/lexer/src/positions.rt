@@ -1,6 +1,8 @@
 // Lines and columns.
-ghost use Rattle.std.specs.Prelude.{◌≡◌, take};
-ghost use Rattle.lexer.specs.Positions.{line_after, column_after};
+ghost use Rattle.std.specs.Prelude.{◌≡◌, take, Some};
+ghost use Rattle.lexer.specs.Positions.{line_after, column_after, position_text};
+
+use std::fmt;
 
 // A line and a column, both counted from 1; a column counts bytes.
 #[derive(Clone, Copy, Debug)]
@@ -25,4 +27,14 @@ pub fn position_of(sheet: &[u8], place: usize) -> Position
         }
     }
     Position { line, column }
+}
+
+impl fmt::Display for Position {
+    ghost output = { λ p. Some (position_text p.line p.column) };
+
+    fn fmt<W: fmt::Write>(&self, f: &mut fmt::Formatter<W>) -> fmt::Result {
+        let line = self.line;
+        let column = self.column;
+        write!(f, "{line}:{column}")
+    }
 }

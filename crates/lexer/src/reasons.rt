@@ -1,6 +1,8 @@
 // Why a call is refused, and where.
-ghost use Rattle.std.specs.Prelude.{◌≡◌};
-ghost use Rattle.lexer.specs.Refusals.{number_of};
+ghost use Rattle.std.specs.Prelude.{◌≡◌, Some};
+ghost use Rattle.lexer.specs.Refusals.{number_of, words_of};
+
+use std::fmt;
 
 #[derive(Clone, Copy, PartialEq, Eq, Debug)]
 pub enum Reason {
@@ -43,5 +45,26 @@ impl Reason {
             Reason::Damaged => 13,
             Reason::NoExpression => 14,
         }
+    }
+}
+
+// What a refusal says to the person who reads it.
+impl fmt::Display for Reason {
+    ghost output = { λ reason. Some (words_of reason) };
+
+    fn fmt<W: fmt::Write>(&self, f: &mut fmt::Formatter<W>) -> fmt::Result {
+        f.pad(match self {
+            Reason::ShortTable => "a table is too short",
+            Reason::LongSheet => "the sheet has over 16,384 bytes",
+            Reason::NoToken => "no token begins here, or a string or comment is not closed",
+            Reason::LargeToken =>
+                "a name over 32 bytes, a string over 255 code units, or a number out of range",
+            Reason::LineFeed => "a line feed after `return`, or before `=>`",
+            Reason::ManyTokens => "the sheet has over 4,096 tokens",
+            Reason::NoProgram => "not a program",
+            Reason::HeavySheet => "the sheet's types are too large",
+            Reason::Damaged => "a table was altered",
+            Reason::NoExpression => "no such expression",
+        })
     }
 }
