@@ -1,5 +1,5 @@
 -- Two types taken apart together: what the answer for two entries follows from. Assumes nothing.
-use Rattle.std.proofs.Common.{◌≡◌, ℕ, suc, ◌+◌, ◌<◌, ◌≤◌, Bool, true, false, List, length, get_or, ℤ, Some, None, Decides, sym, refl, ap, ◌∙◌, subst, ⊎_elim, arith}
+use Rattle.std.proofs.Common.{◌≡◌, ℕ, suc, ◌+◌, ◌-◌, ◌<◌, ◌≤◌, Bool, true, false, List, length, get_or, ℤ, Some, None, Option, Decides, sym, refl, ap, ◌∙◌, subst, ⊎_elim, arith}
 use mathlib.Core.Bool.{Bool-set}
 use mathlib.Core.HLevel.{is_prop→PathP}
 use Rattle.std.proofs.lemmas.List.{get_or_default, same_lists}
@@ -10,7 +10,10 @@ use Rattle.types.specs.declared.kinds.Kind.{Kind}
 use Rattle.types.specs.declared.kinds.Kind.TheVariants as kinds
 use Rattle.types.specs.declared.kinds.Verdict.TheVariants as verdicts
 use Rattle.types.specs.Values.{Decimal, Text, Value, a_number, a_string, a_function, a_pair, canonical, units16}
-use Rattle.types.specs.Types.{Ty, Types, any, number_literal, string_literal, pair, list, count, Meet, Belongs, in_any, in_number_literal, in_string_literal, in_function, in_pair, pair_in_list, in_union, BelongsToSome, to_first, to_other}
+use Rattle.types.specs.Types.{Ty, Types, any, number_literal, string_literal, union, pair, list, ◌and◌, count, Meet, Belongs, in_any, in_number_literal, in_string_literal, in_function, in_pair, pair_in_list, in_union, BelongsToSome, to_first, to_other}
+use Rattle.std.specs.Option.{unwrap_or}
+use Rattle.types.specs.declared.entries.Root.{Root}
+use Rattle.types.specs.Roots.{root_at, SaysSomeMeet, SaysMeetByParts}
 use Rattle.types.specs.Table.{entry_at, UnitsAt, Is, is_any, is_number, is_number_literal, is_string, is_string_literal, is_boolean, is_true, is_false, is_undefined, is_null, is_function, is_pair, is_list, is_union, Run, run_end, run_more, SaysMeet, SaysSame}
 use Rattle.types.specs.Kinds.{OfKind, number_kind, number_literal_kind, string_kind, string_literal_kind, boolean_kind, true_kind, false_kind, undefined_kind, null_kind, function_kind, pair_kind, list_kind, entry_kind, ◌isKind◌, Class, numbers, strings, trues, falses, undefineds, nulls, functions, pairs, part, verdict, Says}
 use Rattle.types.proofs.Inhabited.{inhabited}
@@ -20,8 +23,8 @@ use Rattle.types.proofs.Meaning.{swapped, of_kind, parted, number_partner, same_
 says_yes : {es : List TypeEntry} {n m : ℕ} {a b : TypeEntry} → ((s t : Ty) → Is es n a s → Is es m b t → Meet s t) → SaysMeet es n a m b true
 says_yes f le le' s t hs ht = (λ e. f s t hs ht, λ m. refl)
 
-says_no : {es : List TypeEntry} {n m : ℕ} {a b : TypeEntry} → ((s t : Ty) → Is es n a s → Is es m b t → Meet s t → ⊥) → SaysMeet es n a m b false
-says_no f le le' s t hs ht = (λ e. absurd (both_ways false refl e), λ m. absurd (f s t hs ht m))
+says_no : {es : List TypeEntry} {n m : ℕ} {a b : TypeEntry} {r : Bool} → r ≡ false → ((s t : Ty) → Is es n a s → Is es m b t → Meet s t → ⊥) → SaysMeet es n a m b r
+says_no neg f le le' s t hs ht = (λ e. absurd (both_ways false refl (sym neg ∙ e)), λ m. absurd (f s t hs ht m))
 
 -- where one of the entries holds no type, every answer will do
 pub free : {es : List TypeEntry} {n m : ℕ} {a b : TypeEntry} {r : Bool} → (n ≤ length es → m ≤ length es → (s t : Ty) → Is es n a s → Is es m b t → ⊥) → SaysMeet es n a m b r
@@ -53,21 +56,31 @@ run_some {es} n j k {b} low le le' (run_more {first} x r) l lt f h =
     (λ ne. let m = run_some n j k (omega arith) le le' r (omega arith) (omega arith) f h in (m.0, to_other m.1, m.2))
     (cases_eq first k)
 
-module _ {es : List TypeEntry} {i j first size : ℕ} {a b : TypeEntry} (is : a ≡ Union first size) where
-  pub union_broken : (first + size ≤ i → ⊥) → SaysMeet es i a j b false
-  union_broken high = free (λ le le' s t hs ht. high (union_low (known is hs)))
+-- one of the types at the indexes from first on and below end meets another one, or none does
+pub some_met : {es : List TypeEntry} {first end : ℕ} (j k : ℕ) {b : TypeEntry} → first ≤ k → k < end → SaysMeet es k (entry_at es k) j b true → SaysSomeMeet es first end j b true
+some_met {end} j k l lt f up ts r le le' t h = (λ e. run_some end j k (omega arith) le le' r l (omega arith) f h, λ m. refl)
 
-  pub union_none : ((m : ℕ) → first ≤ m → m < first + size → SaysMeet es m (entry_at es m) j b false) → SaysMeet es i a j b false
-  union_none f le le' = says_no (λ s t hs ht m. none (known is hs) ht m.1 m.2) le le'
-    where
-      none : {s t : Ty} {v : Value} → Is es i (Union first size) s → Is es j b t → Belongs v s → Belongs v t → ⊥
-      none (is_union low r) ht (in_union p) q = run_none i j low le le' r f ht p q
+pub none_met : {es : List TypeEntry} {first end : ℕ} (j : ℕ) {b : TypeEntry} → ((m : ℕ) → first ≤ m → m < end → SaysMeet es m (entry_at es m) j b false) → SaysSomeMeet es first end j b false
+none_met {end} j f up ts r le le' t h = (λ e. absurd (both_ways false refl e), λ m. absurd (run_none end j (omega arith) le le' r (λ k l lt. f k l (omega arith)) h m.1 m.2))
 
-  pub union_some : (k : ℕ) → first ≤ k → k < first + size → SaysMeet es k (entry_at es k) j b true → SaysMeet es i a j b true
-  union_some k l lt f le le' = says_yes (λ s t hs ht. some (known is hs) ht) le le'
-    where
-      some : {s t : Ty} → Is es i (Union first size) s → Is es j b t → Meet s t
-      some (is_union low r) ht = let m = run_some i j k low le le' r l lt f ht in (m.0, in_union m.1, m.2)
+-- a union meets what one of its members meets
+pub union_meets : {es : List TypeEntry} {i j first size : ℕ} {a b : TypeEntry} {r : Bool} (from end : ℕ) → a ≡ Union first size → from ≡ first → end ≡ first + size → SaysSomeMeet es from end j b r → SaysMeet es i a j b r
+union_meets {es} {i} {j} {first} {size} {a} {b} {r} from end is e f d le le' s t hs ht = go (known is hs)
+  where
+    some_of : {s : Ty} {ss : Types} → Meet (union s ss) t → (v : Value) × BelongsToSome v (s and ss) × Belongs v t
+    some_of m = of m.1 m.2
+      where
+        of : {v : Value} {s : Ty} {ss : Types} → Belongs v (union s ss) → Belongs v t → (v : Value) × BelongsToSome v (s and ss) × Belongs v t
+        of (in_union p) q = (_, p, q)
+
+    go : {s : Ty} → Is es i (Union first size) s → Decides r (Meet s t)
+    go (is_union {t = u} {ts = us} low x) =
+        let n : size ≡ end - from = omega arith in
+        let y = d (omega arith) (u and us) (subst (λ k. Run es k (end - from) (u and us)) (sym e) (subst (λ k. Run es first k (u and us)) n x)) (omega arith) le' t ht in
+        (λ o. let m = y.0 o in (m.0, in_union m.1, m.2), λ m. y.1 (some_of m))
+
+pub union_broken : {es : List TypeEntry} {i j first size : ℕ} {a b : TypeEntry} → a ≡ Union first size → i < first + size → SaysMeet es i a j b false
+union_broken is high = free (λ le le' s t hs ht. let low = union_low (known is hs) in omega arith)
 
 -- kinds
 some_none : {k : Kind} → Some k ≡ None → ⊥
@@ -116,7 +129,7 @@ module _ {es : List TypeEntry} {i j : ℕ} {a b : TypeEntry} {k l : Kind} (ki : 
   kinds_meet f = says_yes (λ s t hs ht. f s t (of_entry ki hs) (of_entry lj ht))
 
   pub kinds_never : Says k l verdicts.Never → SaysMeet es i a j b false
-  kinds_never f = says_no (λ s t hs ht. f s t (of_entry ki hs) (of_entry lj ht))
+  kinds_never f = says_no refl (λ s t hs ht. f s t (of_entry ki hs) (of_entry lj ht))
 
 -- number literals
 pub same_decimal : (c d : Decimal) → c.digits ≡ d.digits → c.exponent ≡ d.exponent → c ≡ d
@@ -178,11 +191,11 @@ abbrev At : List TypeEntry → ℕ → ℕ → Bool → Type 0
 At es x y r = SaysMeet es x (entry_at es x) y (entry_at es y) r
 
 module _ {es : List TypeEntry} {i j head tail h t : ℕ} {a b : TypeEntry} (is : a ≡ Pair head tail) (js : b ≡ Pair h t) where
-  pub heads_apart : At es head h false → SaysMeet es i a j b false
-  heads_apart f le le' = says_no (λ s u hs hu. go (known is hs) (known js hu)) le le'
+  pub heads_apart : {r : Bool} → r ≡ false → At es head h r → SaysMeet es i a j b r
+  heads_apart neg f le le' = says_no neg (λ s u hs hu. go (known is hs) (known js hu)) le le'
     where
       go : {s u : Ty} → Is es i (Pair head tail) s → Is es j (Pair h t) u → Meet s u → ⊥
-      go (is_pair low _ x y) (is_pair low' _ z w) m = both_ways false refl ((f (omega arith) (omega arith) _ _ x z).1 (pair_parts m).0)
+      go (is_pair low _ x y) (is_pair low' _ z w) m = both_ways false refl (sym neg ∙ (f (omega arith) (omega arith) _ _ x z).1 (pair_parts m).0)
 
   pub heads_meet : {r : Bool} → At es head h true → At es tail t r → SaysMeet es i a j b r
   heads_meet {r} f g le le' s u hs hu = go (known is hs) (known js hu)
@@ -196,15 +209,18 @@ module _ {es : List TypeEntry} {i j head tail h t : ℕ} {a b : TypeEntry} (is :
           )
 
 module _ {es : List TypeEntry} {i j head tail element : ℕ} {a b : TypeEntry} (is : a ≡ Pair head tail) (js : b ≡ ListOf element) where
-  pub element_apart : At es head element false → SaysMeet es i a j b false
-  element_apart f le le' = says_no (λ s u hs hu. go (known is hs) (known js hu)) le le'
+  pub element_apart : {r : Bool} → r ≡ false → At es head element r → SaysMeet es i a j b r
+  element_apart neg f le le' = says_no neg (λ s u hs hu. go (known is hs) (known js hu)) le le'
     where
       go : {s u : Ty} → Is es i (Pair head tail) s → Is es j (ListOf element) u → Meet s u → ⊥
-      go (is_pair low _ x y) (is_list low' z) m = both_ways false refl ((f (omega arith) (omega arith) _ _ x z).1 (list_parts m).0)
+      go (is_pair low _ x y) (is_list low' z) m = both_ways false refl (sym neg ∙ (f (omega arith) (omega arith) _ _ x z).1 (list_parts m).0)
 
-  pub element_meets : {r : Bool} → At es head element true → SaysMeet es tail (entry_at es tail) j (ListOf element) r → SaysMeet es i a j b r
-  element_meets {r} f g le le' s u hs hu = go (known is hs) (known js hu)
+  pub element_meets : {r : Bool} → At es head element true → SaysMeet es tail (entry_at es tail) j b r → SaysMeet es i a j b r
+  element_meets {r} f of_tail le le' s u hs hu = go (known is hs) (known js hu)
     where
+      g : SaysMeet es tail (entry_at es tail) j (ListOf element) r
+      g = subst (λ z. SaysMeet es tail (entry_at es tail) j z r) js of_tail
+
       go : {s u : Ty} → Is es i (Pair head tail) s → Is es j (ListOf element) u → Decides r (Meet s u)
       go (is_pair lh lt x y) (is_list low z) =
           let d = f (omega arith) (omega arith) _ _ x z in
@@ -224,8 +240,8 @@ strings_meet {es} {i} {j} {f} {g} {n} {r} is js d le le' s t hs ht = go (known i
           λ o. same.1 (ap (λ z. z.units) (same_string o)),
         )
 
-pub lengths_apart : {es : List TypeEntry} {i j f m g n : ℕ} {a b : TypeEntry} → a ≡ StringLiteral f m → b ≡ StringLiteral g n → (m ≡ n → ⊥) → SaysMeet es i a j b false
-lengths_apart {es} {i} {j} {f} {m} {g} {n} is js ne = says_no (λ s t hs ht. go (known is hs) (known js ht))
+pub lengths_apart : {es : List TypeEntry} {i j f m g n : ℕ} {a b : TypeEntry} {r : Bool} → a ≡ StringLiteral f m → b ≡ StringLiteral g n → r ≡ false → (m ≡ n → ⊥) → SaysMeet es i a j b r
+lengths_apart {es} {i} {j} {f} {m} {g} {n} is js neg ne = says_no neg (λ s t hs ht. go (known is hs) (known js ht))
   where
     go : {s t : Ty} → Is es i (StringLiteral f m) s → Is es j (StringLiteral g n) t → Meet s t → ⊥
     go (is_string_literal lx p u) (is_string_literal ly q v) o = ne (sym p ∙ ap (λ z. length z.units) (same_string o) ∙ q)
@@ -246,43 +262,59 @@ pair_entry pair_kind (is_pair p q x y) = (_, _, refl)
 list_entry : {es : List TypeEntry} {n : ℕ} {e : TypeEntry} {s : Ty} → OfKind s kinds.List → Is es n e s → (element : ℕ) × (e ≡ ListOf element)
 list_entry list_kind (is_list p x) = (_, refl)
 
-module _ {es : List TypeEntry} {i j : ℕ} {a b : TypeEntry} {k l : Kind} (ki : entry_kind a ≡ Some k) (lj : entry_kind b ≡ Some l) (v : verdicts.ByParts ≡ verdict k l) where
-  -- a number literal is taken apart with a number literal only
-  pub no_number : {m : ℕ} {x : ℤ} → a ≡ NumberLiteral m x → ((digits : ℕ) (exponent : ℤ) → b ≡ NumberLiteral digits exponent → ⊥) → SaysMeet es i a j b false
-  no_number is n =
-      free (λ le le' s t hs ht.
-      let c = parted k l v in
-      let same : k ≡ kinds.NumberLiteral = some_some (sym ki ∙ ap entry_kind is) in
-      let e = number_entry (number_partner c.0 (subst (λ x. part c.0 x ≡ true) same c.1) c.2 (of_entry lj ht)) ht in
-      n e.0 e.1 e.2)
+-- a type that is none of those with parts does not meet another one by parts
+pub no_parts : {es : List TypeEntry} {i j : ℕ} {a b : TypeEntry} {k : Kind} (l : Kind)
+    → entry_kind a ≡ Some k → verdict k l ≡ verdicts.ByParts
+    → ((digits : ℕ) (exponent : ℤ) → a ≡ NumberLiteral digits exponent → ⊥)
+    → ((first size : ℕ) → a ≡ StringLiteral first size → ⊥)
+    → ((first size : ℕ) → a ≡ Function first size → ⊥)
+    → ((head tail : ℕ) → a ≡ Pair head tail → ⊥)
+    → ((element : ℕ) → a ≡ ListOf element → ⊥)
+    → SaysMeet es i a j b false
+no_parts {es} {i} {a} {k} l ki v n s f p q = free (λ le le' x y hx hy. let c = parted k l (sym v) in none c.0 c.1 (of_entry ki hx) hx)
+  where
+    none : {x : Ty} (c : Class) → part c k ≡ true → OfKind x k → Is es i a x → ⊥
+    none numbers t o h = let e = number_entry (of_kind kinds.NumberLiteral t o) h in n e.0 e.1 e.2
+    none strings t o h = let e = string_entry (of_kind kinds.StringLiteral t o) h in s e.0 e.1 e.2
+    none trues t o h = both_ways false refl t
+    none falses t o h = both_ways false refl t
+    none undefineds t o h = both_ways false refl t
+    none nulls t o h = both_ways false refl t
+    none functions t o h = let e = function_entry (of_kind kinds.Function t o) h in f e.0 e.1 e.2
+    none pairs t o h =
+        ⊎_elim
+        (λ t. let e = pair_entry (of_kind kinds.Pair t o) h in p e.0 e.1 e.2)
+        (λ t. let e = list_entry (of_kind kinds.List t o) h in q e.0 e.1)
+        (or_cases (k isKind kinds.Pair) (k isKind kinds.List) t)
 
-  -- only five kinds are taken apart
-  pub no-parts :
-      ((digits : ℕ) (exponent : ℤ) → a ≡ NumberLiteral digits exponent → ⊥)
-      → ((first size : ℕ) → a ≡ StringLiteral first size → ⊥)
-      → ((first size : ℕ) → a ≡ Function first size → ⊥)
-      → ((head tail : ℕ) → a ≡ Pair head tail → ⊥)
-      → ((element : ℕ) → a ≡ ListOf element → ⊥)
-      → SaysMeet es i a j b false
-  no-parts n s f p q = free (λ le le' x y hx hy. let c = parted k l v in none c.0 c.1 (of_entry ki hx) hx)
-    where
-      none : {x : Ty} (c : Class) → part c k ≡ true → OfKind x k → Is es i a x → ⊥
-      none numbers t o h = let e = number_entry (of_kind kinds.NumberLiteral t o) h in n e.0 e.1 e.2
-      none strings t o h = let e = string_entry (of_kind kinds.StringLiteral t o) h in s e.0 e.1 e.2
-      none trues t o h = both_ways false refl t
-      none falses t o h = both_ways false refl t
-      none undefineds t o h = both_ways false refl t
-      none nulls t o h = both_ways false refl t
-      none functions t o h = let e = function_entry (of_kind kinds.Function t o) h in f e.0 e.1 e.2
-      none pairs t o h =
-          ⊎_elim
-          (λ t. let e = pair_entry (of_kind kinds.Pair t o) h in p e.0 e.1 e.2)
-          (λ t. let e = list_entry (of_kind kinds.List t o) h in q e.0 e.1)
-          (or_cases (k isKind kinds.Pair) (k isKind kinds.List) t)
+-- a number literal meets a number literal only by parts
+pub no_number : {es : List TypeEntry} {i j m : ℕ} {x : ℤ} {a b : TypeEntry} {k l : Kind} → entry_kind a ≡ Some k → entry_kind b ≡ Some l → verdict k l ≡ verdicts.ByParts → a ≡ NumberLiteral m x → ((digits : ℕ) (exponent : ℤ) → b ≡ NumberLiteral digits exponent → ⊥) → SaysMeet es i a j b false
+no_number {k} {l} ki lj v is n =
+    free (λ le le' s t hs ht.
+    let c = parted k l (sym v) in
+    let same : k ≡ kinds.NumberLiteral = some_some (sym ki ∙ ap entry_kind is) in
+    let e = number_entry (number_partner c.0 (subst (λ x. part c.0 x ≡ true) same c.1) c.2 (of_entry lj ht)) ht in
+    n e.0 e.1 e.2)
 
--- one more member, or one more unit
-pub members_more : (P : ℕ → Type 0) (first k : ℕ) → ((m : ℕ) → first ≤ m → m < k → P m) → P k → (m : ℕ) → first ≤ m → m < k + 1 → P m
-members_more P first k below here m le lt = ⊎_elim (λ e. subst P (sym e) here) (λ ne. below m le (omega arith)) (cases_eq m k)
+-- the types at two indexes, taken out as parts
+pub at_both : {es : List TypeEntry} {k l : ℕ} {r : Bool} (x y : Root) → x ≡ root_at es k → y ≡ root_at es l → SaysMeet es x.used x.entry y.used y.entry r → At es k l r
+at_both {es} {k} {r} x y p q f =
+    let h = subst (λ z. SaysMeet es z.used z.entry y.used y.entry r) p f in
+    subst (λ z. SaysMeet es k (entry_at es k) z.used z.entry r) q h
+
+pub at_first : {es : List TypeEntry} {k m : ℕ} {b : TypeEntry} {r : Bool} (x : Root) → x ≡ root_at es k → SaysMeet es x.used x.entry m b r → SaysMeet es k (entry_at es k) m b r
+at_first {es} {m} {b} {r} x p f = subst (λ z. SaysMeet es z.used z.entry m b r) p f
+
+-- a part that does not stand below its type
+pub first_broken : {es : List TypeEntry} {n k : ℕ} {a : TypeEntry} (m : ℕ) (b : TypeEntry) {r : Option Bool} → r ≡ None → ((s : Ty) → Is es n a s → k < n) → (n ≤ length es → n ≤ k) → SaysMeetByParts es n a m b r
+first_broken {es} {n} {a} m b none low high = subst (SaysMeetByParts es n a m b) (sym none) (free (λ le le' s t hs ht. let l = low s hs in let h = high le in omega arith))
+
+pub second_broken : {es : List TypeEntry} {m k : ℕ} {b : TypeEntry} (n : ℕ) (a : TypeEntry) {r : Option Bool} → r ≡ None → ((t : Ty) → Is es m b t → k < m) → (m ≤ length es → m ≤ k) → SaysMeetByParts es n a m b r
+second_broken {es} {m} {b} n a none low high = subst (SaysMeetByParts es n a m b) (sym none) (free (λ le le' s t hs ht. let l = low t ht in let h = high le' in omega arith))
+
+pub by_parts : {es : List TypeEntry} {n m : ℕ} {a b : TypeEntry} {k l : Kind} {r : Bool} (p : Option Bool) → r ≡ unwrap_or p false → SaysMeetByParts es n a m b p → entry_kind a ≡ Some k → entry_kind b ≡ Some l → verdict k l ≡ verdicts.ByParts → SaysMeet es n a m b r
+by_parts {es} {n} {m} {a} {b} (Some x) e f ki lj v = subst (SaysMeet es n a m b) (sym e) (f _ _ ki lj v)
+by_parts {es} {n} {m} {a} {b} None e f ki lj v = subst (SaysMeet es n a m b) (sym e) f
 
 pub units_same : (es : List TypeEntry) (first other : ℕ) (us vs : List ℕ) → length us ≡ length vs → UnitsAt es first us → UnitsAt es other vs → ((m : ℕ) → m < length us → entry_at es (first + m) ≡ entry_at es (other + m)) → us ≡ vs
 units_same es first other us vs long u v same =

@@ -4,7 +4,7 @@ ghost use Rattle.types.specs.Kinds.{Right, Says, entry_kind, rank, verdict};
 use crate::entries::TypeEntry;
 
 // The kinds of types, in rank order.
-#[derive(Clone, Copy)]
+#[derive(Clone, Copy, PartialEq, Eq, Debug)]
 pub enum Kind {
     Number,
     NumberLiteral,
@@ -21,7 +21,7 @@ pub enum Kind {
 }
 
 // What two kinds alone say of two types.
-#[derive(Clone, Copy)]
+#[derive(Clone, Copy, PartialEq, Eq, Debug)]
 pub enum Verdict {
     // They have a common value.
     Meet,

@@ -1,104 +1,83 @@
 // Whether two types of a type table have a common value.
 ghost use Rattle.types.specs.Table.{SaysMeet};
+ghost use Rattle.types.specs.Roots.{SaysMeetByParts, SaysSomeMeet};
 
-use crate::compare::{run_below, same_number, same_units};
-use crate::entries::TypeEntry;
+use crate::compare::same_units;
+use crate::entries::{Root, TypeEntry};
 use crate::kinds::{Verdict, kind_of, verdict_of};
+use std::ops::Range;
 
-// Whether two types have a common value: a, whose parts stand below n, and b, whose parts stand below m.
-// Where one of them is no type of the table, the answer is free.
-pub fn meets(types: &[TypeEntry], n: usize, a: TypeEntry, m: usize, b: TypeEntry) -> bool
-    ensures { SaysMeet types.now n a m b result }
+// Whether two types have a common value. Where one of them is no type of the table, the answer is free.
+#[cycle(meeting)]
+pub fn meets(types: &[TypeEntry], a: Root, b: Root) -> bool
+    ensures { SaysMeet types.now a.used a.entry b.used b.entry result }
 {
-    if n > types.len() || m > types.len() {
-        return false;
-    }
-    if let TypeEntry::Union { first, count } = a {
-        if !run_below(first, count, n) {
-            return false;
-        }
-        for k in first..first + count {
-            if meets(types, k, types[k], m, b) {
-                return true;
-            }
-        }
-        return false;
-    }
-    if let TypeEntry::Union { first, count } = b {
-        if !run_below(first, count, m) {
-            return false;
-        }
-        for k in first..first + count {
-            if meets(types, n, a, k, types[k]) {
-                return true;
-            }
-        }
-        return false;
-    }
-    let Some(kind) = kind_of(a) else {
-        return true;
-    };
-    let Some(other) = kind_of(b) else {
-        return true;
-    };
-    match verdict_of(kind, other) {
-        Verdict::Meet => true,
-        Verdict::Never => false,
-        Verdict::ByParts => match a {
-            TypeEntry::NumberLiteral { digits, exponent } => match b {
-                TypeEntry::NumberLiteral {
-                    digits: d,
-                    exponent: e,
-                } => same_number(digits, exponent, d, e),
-                _ => false,
-            },
-            TypeEntry::StringLiteral { first, count } => match b {
-                TypeEntry::StringLiteral { first: f, count: c } => {
-                    if count != c {
-                        return false;
-                    }
-                    same_units(types, first, f, count)
-                }
-                _ => false,
-            },
-            TypeEntry::Function { count, .. } => match b {
-                TypeEntry::Function { count: c, .. } => count == c,
-                _ => false,
-            },
-            TypeEntry::Pair { head, tail } => match b {
-                TypeEntry::Pair { head: h, tail: t } => {
-                    if head >= n || tail >= n || h >= m || t >= m {
-                        return false;
-                    }
-                    if !meets(types, head, types[head], h, types[h]) {
-                        return false;
-                    }
-                    meets(types, tail, types[tail], t, types[t])
-                }
-                TypeEntry::List { element } => {
-                    if head >= n || tail >= n || element >= m {
-                        return false;
-                    }
-                    if !meets(types, head, types[head], element, types[element]) {
-                        return false;
-                    }
-                    meets(types, tail, types[tail], m, b)
-                }
-                _ => false,
-            },
-            TypeEntry::List { element } => match b {
-                TypeEntry::Pair { head, tail } => {
-                    if element >= n || head >= m || tail >= m {
-                        return false;
-                    }
-                    if !meets(types, element, types[element], head, types[head]) {
-                        return false;
-                    }
-                    meets(types, n, a, tail, types[tail])
-                }
-                _ => false,
-            },
-            _ => false,
+    match (a.entry, b.entry) {
+        (TypeEntry::Union { first, count }, _) => match a.run(first, count) {
+            Some(members) => some_meets(types, members, b),
+            None => false,
         },
+        (_, TypeEntry::Union { first, count }) => match b.run(first, count) {
+            Some(members) => some_meets(types, members, a),
+            None => false,
+        },
+        (x, y) => {
+            let (Some(kind), Some(other)) = (kind_of(x), kind_of(y)) else {
+                return true;
+            };
+            match verdict_of(kind, other) {
+                Verdict::Meet => true,
+                Verdict::Never => false,
+                Verdict::ByParts => parts_meet(types, a, b).unwrap_or(false),
+            }
+        }
     }
+}
+
+// Whether one of the types in a run of entries meets another type.
+#[cycle(meeting)]
+fn some_meets(types: &[TypeEntry], run: Range<usize>, other: Root) -> bool
+    ensures { SaysSomeMeet types.now run.start run.end other.used other.entry result }
+{
+    for k in run {
+        if meets(types, Root::at(types, k), other) {
+            return true;
+        }
+    }
+    false
+}
+
+// Whether two types of kinds that meet by their parts do so. None where a part does not stand below its type.
+#[cycle(meeting)]
+fn parts_meet(types: &[TypeEntry], a: Root, b: Root) -> Option<bool>
+    ensures { SaysMeetByParts types.now a.used a.entry b.used b.entry result }
+{
+    let met = match (a.entry, b.entry) {
+        (
+            TypeEntry::NumberLiteral { digits, exponent },
+            TypeEntry::NumberLiteral {
+                digits: d,
+                exponent: e,
+            },
+        ) => (digits, exponent) == (d, e),
+        (
+            TypeEntry::StringLiteral { first, count },
+            TypeEntry::StringLiteral { first: f, count: c },
+        ) => count == c && same_units(types, first, f, count),
+        (TypeEntry::Function { count, .. }, TypeEntry::Function { count: c, .. }) => count == c,
+        (TypeEntry::Pair { head, tail }, TypeEntry::Pair { head: h, tail: t }) => {
+            meets(types, a.part(types, head)?, b.part(types, h)?)
+                && meets(types, a.part(types, tail)?, b.part(types, t)?)
+        }
+        (TypeEntry::Pair { head, tail }, TypeEntry::List { element }) => {
+            meets(types, a.part(types, head)?, b.part(types, element)?)
+                && meets(types, a.part(types, tail)?, b)
+        }
+        (TypeEntry::List { element }, TypeEntry::Pair { head, tail }) => {
+            meets(types, a.part(types, element)?, b.part(types, head)?)
+                && meets(types, a, b.part(types, tail)?)
+        }
+        _ => false,
+    };
+    Some(met)
 }
