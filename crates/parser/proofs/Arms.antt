@@ -22,7 +22,7 @@ use Rattle.parser.specs.Machine.{right_infix, right_prefix, otherwise, Part, rig
 use Rattle.parser.specs.Holds.{Within, Fits, Ends, AfterAll, Reduced, Kept, Frames, no_frame, an_infix, a_prefix, an_otherwise, a_bracket, a_consequent, Before, Ended, at_start, at_want, at_after, Next, Lower}
 use Rattle.parser.proofs.Corner.{left_atom}
 use Rattle.parser.proofs.Turns.{one_follow, never, wants_prefix, at_infix, at_question, at_leaf, at_open, at_prefix, at_close, at_end, at_colon, Closer, not_closed}
-use Rattle.parser.proofs.Tables.{kept_set, set_at, tree_kept, listed_kept, below, earlier, before_more}
+use Rattle.parser.proofs.TreeTables.{kept_set, set_at, tree_kept, listed_kept, below, earlier, before_more}
 
 -- a token that is an expression by itself: one entry more
 pub step_leaf : {sheet : ℕ} {table : List TreeEntry} {fs : List OperatorEntry} {used : ℕ} {last : Option ℕ} {b : List Expr} {ps : List Part} (l : AnyLeaf) (t : Token) → t.symbol ≡ Leaf l → used < length table → Within sheet t → Before sheet table fs used last b ps → Next sheet (set table used (LeafEntry l t.place t.len)) fs (record { used = used + 1; last = last; position = After used }) want b ps t

@@ -1,7 +1,7 @@
 pub mod Corner
 pub mod Counting
 pub mod Turns
-pub mod Tables
+pub mod TreeTables
 pub mod Reductions
 pub mod Arms
 pub mod Whole

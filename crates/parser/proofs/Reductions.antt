@@ -10,7 +10,7 @@ use Rattle.parser.specs.Machine.{Right, right_infix, right_prefix, otherwise, wa
 use Rattle.parser.specs.Holds.{Kept, Frames, an_infix, a_prefix, an_otherwise, a_bracket, a_consequent, Before, Ends, AfterAll, Reduced, completion, awaits}
 use Rattle.parser.proofs.Corner.{left_fits}
 use Rattle.parser.proofs.Turns.{never, reduce}
-use Rattle.parser.proofs.Tables.{kept_set, set_at, tree_kept, below, before_more}
+use Rattle.parser.proofs.TreeTables.{kept_set, set_at, tree_kept, below, before_more}
 
 -- the top that was seen is the top that is taken
 pub popped : {T : Type 0} (fs fs' rest : List T) (x : T) (r : Option T) → fs ≡ x ∷ rest → MatchOption r ((fs ≡ []) × (fs' ≡ [])) (λ y. fs ≡ y ∷ fs') → fs ≡ x ∷ fs'

@@ -6,3 +6,4 @@ pub mod Reading
 pub mod Machine
 pub mod Holds
 pub mod Parsing
+pub mod Lending

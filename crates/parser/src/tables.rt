@@ -1,0 +1,33 @@
+// The tables that a caller lends.
+ghost use Rattle.std.specs.Prelude.{Decides};
+ghost use Rattle.parser.specs.Reading.{Short};
+ghost use Rattle.parser.specs.Lending.{sizes_of};
+
+use crate::tree::{OperatorEntry, WalkFrame};
+use types::entries::TypeEntry;
+
+// How many entries the tree table and the two stacks have at least.
+pub const ENTRIES: usize = 4096;
+
+// How many the type table has.
+pub const TYPES: usize = 8192;
+
+// The tables that a call works in, beside the tree: two stacks, and the types of a checked sheet.
+#[derive(Drop)]
+pub struct Tables<'a> {
+    pub operators: &'a mut [OperatorEntry],
+    pub frames: &'a mut [WalkFrame],
+    pub types: &'a mut [TypeEntry],
+}
+
+impl Tables<'_> {
+    // Whether one of them, or a tree table of this length, is under its size.
+    pub fn is_short(&self, tree: usize) -> bool
+        ensures { Decides result (Short (sizes_of tree self.now)) }
+    {
+        tree < ENTRIES
+            || self.operators.len() < ENTRIES
+            || self.frames.len() < ENTRIES
+            || self.types.len() < TYPES
+    }
+}
