@@ -12,4 +12,3 @@ pub mod Decodings
 pub mod ShortNumbers
 pub mod Verdicts
 pub mod Tallying
-pub mod Lines
