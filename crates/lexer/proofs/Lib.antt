@@ -1,6 +1,6 @@
 pub mod Pieces
 pub mod Tables
-pub mod WordRows
+pub mod SortedWords
 pub mod Firsts
 pub mod DigitRuns
 pub mod Steps
@@ -12,4 +12,3 @@ pub mod Decodings
 pub mod ShortNumbers
 pub mod Verdicts
 pub mod Tallying
-pub mod Lines

@@ -1,13 +1,14 @@
 -- A number of at most four bytes is in range. Assumes nothing.
-use Rattle.std.proofs.Common.{◌≡◌, ℕ, zero, suc, ◌+◌, ◌-◌, ◌*◌, ◌/◌, ◌%◌, ◌^◌, ◌<◌, ◌≤◌, List, ◌++◌, map, length, drop, refl, ap, inl, inr, ⊎_elim, pow-suc, zero-mul, arith, length-append, length-drop}
+use Rattle.std.proofs.Common.{Bool, Some, None, Option, Decides, sym, ◌∙◌, ◌≡◌, ℕ, zero, suc, ◌+◌, ◌-◌, ◌*◌, ◌/◌, ◌%◌, ◌^◌, ◌<◌, ◌≤◌, List, ◌++◌, map, length, drop, refl, ap, inl, inr, ⊎_elim, pow-suc, zero-mul, arith, length-append, length-drop}
 use native.Mathlib.Nat.{pow-le-pow_right}
 use Rattle.std.specs.List.{AllByRecursion}
 use Rattle.std.proofs.lemmas.Int.Digits.{number_lt}
 use Rattle.std.proofs.ByRecursion.{All-append, All-map, All-weaker}
 use Rattle.std.proofs.lemmas.List.{length-map}
-use Rattle.std.proofs.lemmas.Bool.{cases_lt}
+use Rattle.std.proofs.lemmas.Bool.{cases_lt, false≢true}
 use Rattle.lexer.specs.Numbers.{DigitByte, read, Scale, none, plain, plus, minus, amount, NumberText}
-use Rattle.lexer.specs.Decimals.{Canonical, Values}
+use Rattle.std.specs.Option.{is_some}
+use Rattle.lexer.specs.Decimals.{Canonical, Values, ReadAs}
 use Rattle.lexer.specs.Mantissas.{Stripped}
 use Rattle.lexer.specs.Sizes.{InRange}
 use Rattle.lexer.specs.declared.decimals.Decimal.{Decimal}
@@ -58,3 +59,8 @@ short_number _ w (n, up, down, amount is fs es u d a b s) =
     let below = read_below (is ++ drop 1 fs) 15 (All-append DigitByte is (drop 1 fs) a.1 (fraction_digits fs b)) (omega (arith, length-append fs es, length-drop 1 fs)) in
     let v = valued (read (is ++ drop 1 fs)) u (length (drop 1 fs) + d) below (omega arith) (omega (arith, length-append fs es, length-drop 1 fs)) in
     (v.0, record { n = _; up = _; down = _; written = amount is fs es u d a b s; value = v.2; canonical = v.1 })
+
+-- a number is in range where a decimal is read from it
+pub in_range : (t : List ℕ) (d : Option Decimal) (r : Bool) → ReadAs t d → r ≡ is_some d → Decides r (InRange t)
+in_range t (Some d) r h e = (λ _. (d, h), λ _. e)
+in_range t None r h e = (λ f. absurd (false≢true (sym e ∙ f)), λ x. absurd (h x.0 x.1))

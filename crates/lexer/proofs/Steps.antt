@@ -1,12 +1,16 @@
 -- One step of reading. Assumes nothing.
-use Rattle.std.proofs.Common.{◌≡◌, ℕ, ◌+◌, ◌-◌, ◌<◌, ◌≤◌, ◌⊎◌, List, length, take, drop, Some, None, Ok, Option, sym, ap, ◌∙◌, subst, inl, inr, ⊎_elim, arith, length-drop}
+use Rattle.std.proofs.Common.{◌≡◌, ℕ, ◌+◌, ◌-◌, ◌<◌, ◌≤◌, ◌⊎◌, List, length, take, drop, Some, None, Ok, Err, Option, Result, sym, ap, ◌∙◌, subst, inl, inr, ⊎_elim, arith, length-drop}
 use Rattle.std.proofs.lemmas.List.{length-take-le, take_rest, drop-drop}
 use Rattle.std.proofs.lemmas.Bool.{cases_lt}
+use Rattle.std.specs.Option.{ok_or}
 use Rattle.lexer.specs.Gaps.{Gap}
 use Rattle.lexer.specs.Tokens.{TokenAt}
 use Rattle.lexer.specs.Sizes.{Small}
-use Rattle.lexer.specs.Reading.{Why, Given, Stopped, Finished, Reads}
+use Rattle.lexer.specs.Founds.{FoundAt}
+use Rattle.lexer.specs.Reading.{no_token, too_large, Why, Given, Stopped, Finished, Reads}
+use Rattle.lexer.specs.declared.reasons.Reason.TheVariants.{NoToken, LargeToken}
 use Rattle.lexer.specs.declared.refusal.Refusal.{Refusal}
+use Rattle.lexer.specs.declared.tokens.Found.{Found}
 use Rattle.lexer.specs.declared.read.Token.{Token}
 use Rattle.lexer.proofs.Firsts.{token_some}
 
@@ -29,6 +33,13 @@ module _ (sheet : List ℕ) (at g : ℕ) (l r : List ℕ) (before : l ≡ drop a
 
   pub stops : (e : Refusal) → e.place ≡ at + g → Why r e.reason → Stopped sheet at e
   stops e p w = record { gap = g; past = past; place = p; why = subst (λ x. Why x e.reason) after w }
+
+  -- a refusal where no token was found, and where a token is too large
+  pub no_found : (o : Option Found) (e : Refusal) → FoundAt r o → o ≡ None → (length r ≡ 0 → ⊥) → e.reason ≡ NoToken → e.place ≡ at + g → Stopped sheet at e
+  no_found o e f is some w p = stops e p (subst (Why r) (sym w) (no_token (omega (arith, some)) (subst (FoundAt r) is f)))
+
+  pub large_found : (o : Option Found) (t : Found) (e : Refusal) → FoundAt r o → o ≡ Some t → (Small t.kind (take t.len r) → ⊥) → e.reason ≡ LargeToken → e.place ≡ at + g → Stopped sheet at e
+  large_found o t e f is large w p = stops e p (subst (Why r) (sym w) (too_large (subst (FoundAt r) is f) large))
 
   pub gives : (t : Token) (n next : ℕ) → t.at ≡ at + g → TokenAt r t.kind n → Small t.kind t.text.now → t.text.now ≡ take n r → next ≡ at + g + n → Given sheet at t next
   gives t n next p k s e o =
@@ -62,3 +73,7 @@ module _ {s sheet : List ℕ} (same : s ≡ sheet) where
 
   pub stopped_at : {at : ℕ} {e : Refusal} → Stopped s at e → Stopped sheet at e
   stopped_at {at} {e} g = subst (λ l. Stopped l at e) same g
+
+-- the error that stands for none
+pub error_of : {T E : Type 0} (o : Option T) {e f : E} → o ≡ None → ◌≡◌ {A = Result T E} (Err f) (ok_or o e) → f ≡ e
+error_of {T} {E} o {e} {f} is h = let k : ◌≡◌ {A = Result T E} (Err f) (Err e) = h ∙ ap (λ x. ok_or x e) is in cc

@@ -1,13 +1,16 @@
 -- One token more in a tally, and the end of one. Assumes nothing.
-use Rattle.std.proofs.Common.{◌≡◌, ℕ, suc, ◌+◌, ◌<◌, ◌≤◌, ◌⊎◌, List, [], ◌∷◌, length, Some, None, codes, Decides, Option, sym, refl, ap, ◌∙◌, subst, inl, inr, ⊎_elim, arith, MatchOption}
-use Rattle.std.proofs.lemmas.Bool.{cases_eq}
+use Rattle.std.proofs.Common.{Bool, true, false, eqb, ◌≡◌, ℕ, suc, ◌+◌, ◌<◌, ◌≤◌, ◌⊎◌, List, [], ◌∷◌, length, Some, None, codes, Decides, Option, sym, refl, ap, ◌∙◌, subst, inl, inr, ⊎_elim, arith}
+use Rattle.std.proofs.lemmas.Bool.{cases_Bool, false≢true, eqb-true, eqb-false}
+use Rattle.std.specs.Bool.{then_some}
+use Rattle.std.specs.Option.{option_or}
 use Rattle.lexer.specs.Sizes.{Small}
 use Rattle.lexer.specs.Faults.{FirstFault}
+use Rattle.lexer.specs.declared.reasons.Reason.{Reason}
 use Rattle.lexer.specs.declared.reasons.Reason.TheVariants.{LineFeed, ManyTokens}
 use Rattle.lexer.specs.Reading.{Lexes, done, refused, token, Ending, finished, stopped, Given, Finished, Stopped}
 use Rattle.lexer.specs.declared.refusal.Refusal.{Refusal}
 use Rattle.lexer.specs.Scanning.{Tok, text, nth, next_here, next_later, BrokenLine, broken_line, FeedBetween, TokenFault, Clean}
-use Rattle.lexer.specs.Tallies.{Knows, knows_none, knows_last, joined, Seen, Whole, Tallied, Breaks, LineWith}
+use Rattle.lexer.specs.Tallies.{Knows, knows_none, knows_last, joined, OverAt, Seen, Whole, Tallied, Breaks}
 use Rattle.lexer.specs.declared.read.Token.{Token}
 use Rattle.lexer.specs.declared.scan.Tally.{Tally}
 use Rattle.lexer.proofs.Steps.{onward}
@@ -20,13 +23,13 @@ pub data Recorded (a : Tally) (sheet : List ℕ) (t : Token) (r : Option ℕ) : 
   here : a.line ≡ None → Breaks a sheet t → r ≡ Some t.at → Recorded a sheet t r
   nowhere : a.line ≡ None → (Breaks a sheet t → ⊥) → r ≡ None → Recorded a sheet t r
 
-pub recorded : (a : Tally) (sheet : List ℕ) (t : Token) (r : Option ℕ) → LineWith a sheet t r → Recorded a sheet t r
-recorded a sheet t r l = go a.line r refl refl l
+pub recorded : (a : Tally) (sheet : List ℕ) (t : Token) (r : Bool) (l : Option ℕ) → Decides r (Breaks a sheet t) → l ≡ option_or a.line (then_some r t.at) → Recorded a sheet t l
+recorded a sheet t r l = go a.line r refl
   where
-    go : (x y : Option ℕ) → a.line ≡ x → r ≡ y → MatchOption x (MatchOption y (Breaks a sheet t → ⊥) (λ p. Breaks a sheet t × (p ≡ t.at))) (λ p. y ≡ Some p) → Recorded a sheet t r
-    go (Some q) y e f h = before q e (f ∙ h)
-    go None (Some p) e f h = here e h.0 (f ∙ ap Some h.1)
-    go None None e f h = nowhere e h f
+    go : (x : Option ℕ) (y : Bool) → a.line ≡ x → Decides y (Breaks a sheet t) → l ≡ option_or x (then_some y t.at) → Recorded a sheet t l
+    go (Some q) y f d e = before q f e
+    go None true f d e = here f (d.0 refl) e
+    go None false f d e = nowhere f (λ h. false≢true (d.1 h)) e
 
 some_once : {p q : ℕ} {r : Option ℕ} → r ≡ Some p → r ≡ Some q → p ≡ q
 some_once e f = cc
@@ -46,7 +49,7 @@ further (broken_line t u n o f e) = broken_line t u (next_later n) o f e
 module _ (sheet : List ℕ) (at next : ℕ) (a b : Tally) (t : Token)
     (early : (p : ℕ) → a.line ≡ Some p → p < at) (inside : at ≤ length sheet) (g : Given sheet at t next)
     (count : b.count ≡ a.count + 1)
-    (over-now : a.count ≡ 4096 → b.over ≡ t.at) (over-other : (a.count ≡ 4096 → ⊥) → b.over ≡ a.over)
+    (many : b.over ≡ option_or a.over (then_some (eqb a.count 4096) t.at))
     (line : Recorded a sheet t b.line)
     (end : b.end ≡ t.at + length t.text.now)
     (returns : Decides b.returns (t.text.now ≡ codes "return"))
@@ -78,12 +81,16 @@ module _ (sheet : List ℕ) (at next : ℕ) (a b : Tally) (t : Token)
         go (here e k f) = (t.at, f, omega arith)
         go (nowhere e k f) = absurd (k h)
 
-    over : (tokens : List Tok) → nth tokens (a.count + 0) ≡ tok → (4096 < a.count → (nth tokens 4096).1 ≡ a.over) → 4096 < b.count → (nth tokens 4096).1 ≡ b.over
-    over tokens first old h =
-        ⊎_elim
-        (λ e. let i : 4096 ≡ a.count + 0 = omega arith in ap (λ k. (nth tokens k).1) i ∙ (ap (λ x. x.1) first ∙ (sym g.place ∙ sym (over-now e))))
-        (λ e. old (omega arith) ∙ sym (over-other e))
-        (cases_eq a.count 4096)
+    over : (tokens : List Tok) → nth tokens (a.count + 0) ≡ tok → OverAt tokens a.count a.over → OverAt tokens b.count b.over
+    over tokens first old = subst (OverAt tokens b.count) (sym many) (go a.over old)
+      where
+        go : (o : Option ℕ) → OverAt tokens a.count o → OverAt tokens b.count (option_or o (then_some (eqb a.count 4096) t.at))
+        go (Some p) h = (omega arith, h.1)
+        go None h =
+            ⊎_elim
+            (λ e. let i : 4096 ≡ a.count + 0 = omega (arith, eqb-true _ _ e) in rw e (omega (arith, eqb-true _ _ e), ap (λ k. (nth tokens k).1) i ∙ (ap (λ x. x.1) first ∙ sym g.place)))
+            (λ e. rw e (omega (arith, eqb-false _ _ e)))
+            (cases_Bool (eqb a.count 4096))
 
     whole : {o : Option Tok} → Knows sheet a o → (us : List Tok) (fin : Ending) → Whole sheet a o (tok ∷ us) fin → Whole sheet b (Some tok) us fin
     whole {o} k us fin w = record {
@@ -135,8 +142,8 @@ module _ (sheet : List ℕ) (at next : ℕ) (a b : Tally) (t : Token)
         soon p e (here x h f) = let same = some_once f e in omega (arith, g.place, g.on, token_some _ _ _ g.token)
         soon p e (nowhere x h f) = absurd (not_both f e)
 
-pub tallied_none : (sheet : List ℕ) (a : Tally) → a.count ≡ 0 → a.line ≡ None → Tallied sheet 0 a
-tallied_none sheet a z n = record {
+pub tallied_none : (sheet : List ℕ) (a : Tally) → a.count ≡ 0 → a.over ≡ None → a.line ≡ None → Tallied sheet 0 a
+tallied_none sheet a z v n = record {
   inside = omega arith;
   few = omega arith;
   last = None;
@@ -147,7 +154,7 @@ tallied_none sheet a z n = record {
     lexes = l;
     long = omega arith;
     same = λ j. let i : a.count + j ≡ j = omega arith in ap (nth us) i;
-    over = λ h. absurd (omega arith);
+    over = subst (OverAt us a.count) (sym v) (omega arith);
     lines = λ p x. inr x;
     seen = λ p e. absurd (not_both n e);
     left = λ p x. x;
@@ -174,14 +181,20 @@ module _ (sheet : List ℕ) (at : ℕ) (a : Tally) (short : length sheet ≤ 163
     unbroken : (p : ℕ) → BrokenLine sheet all.tokens p → ⊥
     unbroken p b = not_both n (every_line p b).1
 
-    pub many_told : 4096 < a.count → FirstFault (TokenFault sheet) (record { reason = ManyTokens; place = a.over })
-    many_told h = many_first sheet short all.tokens all.lexes unbroken a.over (omega (arith, all.long)) (all.over h)
+    pub many_told : (p : ℕ) → a.over ≡ Some p → FirstFault (TokenFault sheet) (record { reason = ManyTokens; place = p })
+    many_told p e = let many = subst (OverAt all.tokens a.count) e all.over in many_first sheet short all.tokens all.lexes unbroken p (omega (arith, all.long, many.0)) many.1
 
-    pub clean_told : a.count ≤ 4096 → Clean sheet a.count
-    clean_told h = clean sheet short all.tokens all.lexes unbroken a.count (omega (arith, all.long)) h
+    pub clean_told : a.over ≡ None → Clean sheet a.count
+    clean_told e = clean sheet short all.tokens all.lexes unbroken a.count (omega (arith, all.long)) (subst (OverAt all.tokens a.count) e all.over)
 
 -- the tokens end in a refusal
 pub stopped_told : (sheet : List ℕ) (at : ℕ) (a : Tally) (e : Refusal) → length sheet ≤ 16384 → Tallied sheet at a → Stopped sheet at e → FirstFault (TokenFault sheet) e
 stopped_told sheet at a e short s f =
     let all = s.rest [] _ (refused f.gap f.past f.why) in
     stopped_first sheet short all.tokens e (subst (λ i. Lexes sheet 0 all.tokens (stopped e.reason i)) (sym f.place) all.lexes)
+
+-- a refusal is the first fault where its parts are
+pub by_parts : {sheet : List ℕ} (e : Refusal) (r : Reason) (p : ℕ) → e.reason ≡ r → e.place ≡ p → FirstFault (TokenFault sheet) (record { reason = r; place = p }) → FirstFault (TokenFault sheet) e
+by_parts {sheet} e r p f g h =
+    subst (λ x. FirstFault (TokenFault sheet) (record { reason = x; place = e.place })) (sym f)
+    (subst (λ y. FirstFault (TokenFault sheet) (record { reason = r; place = y })) (sym g) h)

@@ -4,7 +4,6 @@ pub mod Runs
 pub mod Gaps
 pub mod Positions
 pub mod Marks
-pub mod Rows
 pub mod Numbers
 pub mod Reach
 pub mod Mantissas

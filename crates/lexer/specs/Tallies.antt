@@ -1,5 +1,5 @@
 -- What a scan has seen so far. No public contract cites it. Assumes nothing.
-use Rattle.std.specs.Prelude.{◌≡◌, ℕ, ◌+◌, ◌<◌, ◌≤◌, true, ◌⊎◌, List, ◌∷◌, length, Some, None, codes, Decides, Option, MatchOption}
+use Rattle.std.specs.Prelude.{◌≡◌, ℕ, ◌+◌, ◌<◌, ◌≤◌, true, ◌⊎◌, List, ◌∷◌, length, Some, None, codes, Decides, Option}
 use Rattle.lexer.specs.Reading.{Lexes, Ending}
 use Rattle.lexer.specs.Scanning.{Tok, text, nth, BrokenLine, FeedBetween}
 use Rattle.lexer.specs.declared.read.Token.{Token}
@@ -15,6 +15,11 @@ abbrev pub joined : Option Tok → List Tok → List Tok
 joined None us = us
 joined (Some t) us = t ∷ us
 
+-- the place of the 4,097th of the tokens, where n counts so many
+abbrev pub OverAt : List Tok → ℕ → Option ℕ → Type 0
+OverAt ts n None = n ≤ 4096
+OverAt ts n (Some p) = (4096 < n) × ((nth ts 4096).1 ≡ p)
+
 -- a broken line stands at p or before it
 abbrev pub Seen : Tally → ℕ → Type 0
 Seen a p = (q : ℕ) × (a.line ≡ Some q) × (q ≤ p)
@@ -25,7 +30,7 @@ pub record Whole (sheet : List ℕ) (a : Tally) (last : Option Tok) (us : List T
   pub lexes : Lexes sheet 0 tokens end
   pub long : length tokens ≡ a.count + length us
   pub same : (j : ℕ) → nth tokens (a.count + j) ≡ nth us j
-  pub over : 4096 < a.count → (nth tokens 4096).1 ≡ a.over
+  pub over : OverAt tokens a.count a.over
   pub lines : (p : ℕ) → BrokenLine sheet tokens p → Seen a p ⊎ BrokenLine sheet (joined last us) p
   pub seen : (p : ℕ) → a.line ≡ Some p → BrokenLine sheet tokens p
   pub left : (p : ℕ) → BrokenLine sheet (joined last us) p → BrokenLine sheet tokens p
@@ -41,7 +46,3 @@ pub record Tallied (sheet : List ℕ) (at : ℕ) (a : Tally) : Type 0 where
 -- the token breaks a line that the last one is on
 abbrev pub Breaks : Tally → List ℕ → Token → Type 0
 Breaks a sheet t = (0 < a.count) × (((a.returns ≡ true) ⊎ (t.text.now ≡ codes "=>")) × FeedBetween sheet a.end t.at)
-
--- the first broken line, once the token is counted too
-abbrev pub LineWith : Tally → List ℕ → Token → Option ℕ → Type 0
-LineWith a sheet t r = MatchOption a.line (MatchOption r (Breaks a sheet t → ⊥) (λ p. Breaks a sheet t × (p ≡ t.at))) (λ p. r ≡ Some p)

@@ -18,8 +18,8 @@ pub fn position_of(sheet: &[u8], place: usize) -> Position
 {
     let mut line = 1;
     let mut column = 1;
-    for i in 0..place.min(sheet.len()) {
-        if sheet[i] == b'\n' {
+    for b in &sheet[..place.min(sheet.len())] {
+        if *b == b'\n' {
             line += 1;
             column = 1;
         } else {

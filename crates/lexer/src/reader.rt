@@ -8,7 +8,7 @@ use crate::reasons::Reason;
 use crate::refusal::Refusal;
 use crate::runs::after;
 use crate::sizes::is_small;
-use crate::tokens::token;
+use crate::tokens::{Found, token};
 
 impl<'a> Reader<'a> {
     // The next token, or nothing at the end of the sheet.
@@ -23,32 +23,17 @@ impl<'a> Reader<'a> {
         if rest.is_empty() {
             return Ok(None);
         }
-        let Some(found) = token(rest) else {
-            return Err(Refusal {
-                reason: Reason::NoToken,
-                place: at,
-            });
-        };
-        let len = found.len;
-        let text = &rest[0..len];
-        if !is_small(found.kind, text) {
-            return Err(Refusal {
-                reason: Reason::LargeToken,
-                place: at,
-            });
+        let Found { kind, len } = token(rest).ok_or(Reason::NoToken.at(at))?;
+        let text = &rest[..len];
+        if !is_small(kind, text) {
+            return Err(Reason::LargeToken.at(at));
         }
         self.at = at + len;
-        Ok(Some(Token {
-            kind: found.kind,
-            at,
-            text,
-        }))
+        Ok(Some(Token { kind, at, text }))
     }
 }
 
 // That a sheet is read in one way.
-pub fn one_reading() -> u8
+pub fn one_reading()
     ensures { OneReading }
-{
-    0
-}
+{}

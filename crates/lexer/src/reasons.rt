@@ -7,25 +7,25 @@ use std::fmt;
 #[derive(Clone, Copy, PartialEq, Eq, Debug)]
 pub enum Reason {
     // a table under its size
-    ShortTable,
+    ShortTable = 1,
     // a sheet over 16,384 bytes
-    LongSheet,
+    LongSheet = 2,
     // no token, or an unclosed string or comment
-    NoToken,
+    NoToken = 3,
     // a name over 32 bytes, a string over 255 code units, a number out of range
-    LargeToken,
+    LargeToken = 4,
     // a line feed after `return`, or before `=>`
-    LineFeed,
+    LineFeed = 5,
     // over 4,096 tokens
-    ManyTokens,
+    ManyTokens = 6,
     // not a program
-    NoProgram,
+    NoProgram = 7,
     // a load over 8,192
-    HeavySheet,
+    HeavySheet = 12,
     // an entry of a table that no call left there
-    Damaged,
+    Damaged = 13,
     // no expression of this number
-    NoExpression,
+    NoExpression = 14,
 }
 
 impl Reason {
@@ -33,18 +33,7 @@ impl Reason {
     pub fn number(self) -> u8
         ensures { result ≡ number_of self }
     {
-        match self {
-            Reason::ShortTable => 1,
-            Reason::LongSheet => 2,
-            Reason::NoToken => 3,
-            Reason::LargeToken => 4,
-            Reason::LineFeed => 5,
-            Reason::ManyTokens => 6,
-            Reason::NoProgram => 7,
-            Reason::HeavySheet => 12,
-            Reason::Damaged => 13,
-            Reason::NoExpression => 14,
-        }
+        self as u8
     }
 }
 

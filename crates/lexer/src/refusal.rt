@@ -1,8 +1,23 @@
 // A refusal: a reason and a place.
+ghost use Rattle.std.specs.Prelude.{◌≡◌};
+
 use crate::reasons::Reason;
 
-#[derive(Clone, Copy, Debug)]
+#[derive(Clone, Copy, PartialEq, Eq, Debug)]
 pub struct Refusal {
     pub reason: Reason,
     pub place: usize,
+}
+
+impl Reason {
+    // The refusal for this reason, at a place.
+    pub fn at(self, place: usize) -> Refusal
+        ensures reason { result.reason ≡ self }
+        ensures place { result.place ≡ place }
+    {
+        Refusal {
+            reason: self,
+            place,
+        }
+    }
 }

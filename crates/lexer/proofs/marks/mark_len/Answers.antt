@@ -4,12 +4,12 @@ use Rattle.lexer.proofs.Tables.{by_three, by_two, by_one, by_none}
 use Rattle.lexer.proofs.marks.mark_len.Goals as goal
 
 pub returns-then-is_three : goal.returns-then-is_three
-returns-then-is_three c = by_three _ _ _ _ c.byte_at-a.ensures c.byte_at-b.ensures c.byte_at.ensures (c.is_three.ensures.0 c.if-is_three.true)
+returns-then-is_three c = (omega arith, by_three _ _ _ _ c.byte_at-a.ensures c.byte_at-b.ensures c.byte_at.ensures (c.is_three.ensures.0 c.if-is_three.true))
 
 pub returns-then-is_two : goal.returns-then-is_two
 returns-then-is_two c =
     let no_three = not_from_Decides _ c.is_three.ensures c.if-is_three.false in
-    by_two _ _ _ _ c.byte_at-a.ensures c.byte_at-b.ensures c.byte_at.ensures no_three (c.is_two.ensures.0 c.if-is_two.true)
+    (omega arith, by_two _ _ _ _ c.byte_at-a.ensures c.byte_at-b.ensures c.byte_at.ensures no_three (c.is_two.ensures.0 c.if-is_two.true))
 
 pub returns-then-a-eq38 : goal.returns-then-a-eq38
 returns-then-a-eq38 c =
@@ -21,4 +21,4 @@ pub returns-else-a-eq38 : goal.returns-else-a-eq38
 returns-else-a-eq38 c =
     let no_three = not_from_Decides _ c.is_three.ensures c.if-is_three.false in
     let no_two = not_from_Decides _ c.is_two.ensures c.if-is_two.false in
-    by_one _ _ _ _ c.byte_at-a.ensures c.byte_at-b.ensures c.byte_at.ensures no_three no_two (omega arith) c.requires c.if-a-eq38.false
+    (omega arith, by_one _ _ _ _ c.byte_at-a.ensures c.byte_at-b.ensures c.byte_at.ensures no_three no_two (omega arith) c.requires c.if-a-eq38.false)

@@ -1,34 +1,42 @@
-use Rattle.std.proofs.Common.{refl, ◌∙◌, arith}
+use Rattle.std.proofs.Common.{refl, arith}
+use Rattle.std.proofs.lemmas.Result.{err_from_is_err_and}
 use Rattle.lexer.proofs.Steps.{onward, given, finished_at, stopped_at}
 use Rattle.lexer.proofs.Verdicts.{long_first}
-use Rattle.lexer.proofs.Tallying.{tallied_none, stopped_told}
+use Rattle.lexer.proofs.Tallying.{tallied_none, stopped_told, by_parts}
+use Rattle.lexer.specs.Reading.{Given}
 use Rattle.lexer.proofs.scan.scan.Goals as goal
+use Rattle.lexer.proofs.scan.scan.Goals.{In-Some}
 
 pub returns-then-sheet-gt-SHEET_LIMIT : goal.returns-then-sheet-gt-SHEET_LIMIT
-returns-then-sheet-gt-SHEET_LIMIT c = long_first _ c.if-sheet-gt-SHEET_LIMIT.true
+returns-then-sheet-gt-SHEET_LIMIT c = by_parts _ _ _ c.at.ensures.reason c.at.ensures.place (long_first _ c.if-sheet-gt-SHEET_LIMIT.true)
 
-pub loop-found-init : goal.loop-found-init
-loop-found-init c = (refl, tallied_none _ _ refl refl)
+pub loop-t-init : goal.loop-t-init
+loop-t-init c = let told = c.default-tally.ensures in (refl, tallied_none _ _ told.0 told.1.0 told.1.1.0)
 
-pub with-tally-requires : goal.with-tally-requires
-with-tally-requires c =
-    let g = given c.loop-found.invariant.0 _ _ c.in-Some.is c.in-Ok.ensures.reads in
-    let on = onward _ _ _ _ c.loop-found.invariant.1.inside g in
-    record { few = omega (arith, on.0, on.1, c.loop-found.invariant.1.few, c.if-sheet-gt-SHEET_LIMIT.false); inside = omega (arith, on.1, g.place, g.on) }
+pub returns-in_err-t : goal.returns-in_err-t
+returns-in_err-t c =
+    let p = err_from_is_err_and c.from_residual.result c.from_residual.ensures.1 in
+    rw (p.1, p.2) (stopped_told _ _ _ _ c.if-sheet-gt-SHEET_LIMIT.false c.loop-t.invariant.1 (stopped_at c.loop-t.invariant.0 c.in_err-t.ensures.reads.0))
 
-pub loop-found-smaller : goal.loop-found-smaller
-loop-found-smaller c =
-    let on = onward _ _ _ _ c.loop-found.invariant.1.inside (given c.loop-found.invariant.0 _ _ c.in-Some.is c.in-Ok.ensures.reads) in
+-- a token was read, and the next place follows it
+step : (c : In-Some) → Given c.args.sheet.now c.loop-t.reader.at c.in-Some.t c.next.new.self.at
+step c = given c.loop-t.invariant.0 _ _ c.in-Some.is c.in_ok-t.ensures.reads
+
+pub with-tally-requires-clause-few : goal.with-tally-requires-clause-few
+with-tally-requires-clause-few c =
+    let on = onward _ _ _ _ c.loop-t.invariant.1.inside (step c) in
+    omega (arith, on.0, on.1, c.loop-t.invariant.1.few)
+
+pub with-tally-requires-clause-inside : goal.with-tally-requires-clause-inside
+with-tally-requires-clause-inside c =
+    let g = step c in
+    let on = onward _ _ _ _ c.loop-t.invariant.1.inside g in
+    omega (arith, on.1, g.place, g.on)
+
+pub loop-t-smaller : goal.loop-t-smaller
+loop-t-smaller c =
+    let on = onward _ _ _ _ c.loop-t.invariant.1.inside (given c.loop-t.invariant.0 _ _ c.in-Some.is c.in_ok-t.ensures.reads) in
     omega arith
 
-pub loop-found-preserved : goal.loop-found-preserved
-loop-found-preserved c = (
-  c.in-Ok.ensures.sheet ∙ c.loop-found.invariant.0,
-  c.with-tally.ensures _ _ c.loop-found.invariant.1 (given c.loop-found.invariant.0 _ _ c.in-Some.is c.in-Ok.ensures.reads),
-)
-
-pub returns-in-None : goal.returns-in-None
-returns-in-None c = c.verdict.ensures _ c.if-sheet-gt-SHEET_LIMIT.false c.loop-found.invariant.1 (finished_at c.loop-found.invariant.0 _ _ c.in-None.is c.in-Ok.ensures.reads)
-
-pub returns-in-Err : goal.returns-in-Err
-returns-in-Err c = stopped_told _ _ _ _ c.if-sheet-gt-SHEET_LIMIT.false c.loop-found.invariant.1 (stopped_at c.loop-found.invariant.0 c.in-Err.ensures.reads.0)
+pub returns : goal.returns
+returns c = c.verdict.ensures _ _ c.if-sheet-gt-SHEET_LIMIT.false c.loop-t.invariant.1 (finished_at c.loop-t.invariant.0 _ _ c.in_default.is c.in_ok-t.ensures.reads)
