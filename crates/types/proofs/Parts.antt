@@ -1,11 +1,12 @@
 -- Two types taken apart together: what the answer for two entries follows from. Assumes nothing.
-use Rattle.std.proofs.Common.{◌≡◌, ℕ, suc, ◌+◌, ◌-◌, ◌<◌, ◌≤◌, Bool, true, false, List, length, get_or, ℤ, Some, None, Option, Decides, sym, refl, ap, ◌∙◌, subst, ⊎_elim, arith}
+use Rattle.std.proofs.Common.{◌≡◌, ℕ, suc, ◌+◌, ◌-◌, ◌<◌, ◌≤◌, Bool, true, false, List, length, get_or, slice_index, take, drop, length-drop, ℤ, Some, None, Option, Decides, sym, refl, ap, ◌∙◌, subst, ⊎_elim, arith, rules}
 use mathlib.Core.Bool.{Bool-set}
 use mathlib.Core.HLevel.{is_prop→PathP}
-use Rattle.std.proofs.lemmas.List.{get_or_default, same_lists}
+use Rattle.std.proofs.lemmas.List.{get_or_default, same_lists, get_or-take, get_or-drop, length-take}
 use Rattle.std.proofs.lemmas.Bool.{both_ways, cases_eq, or_cases}
 use Rattle.types.specs.declared.entries.TypeEntry.{TypeEntry}
-use Rattle.types.specs.declared.entries.TypeEntry.TheVariants.{NumberLiteral, StringLiteral, Function, Pair, List as ListOf, Union}
+use Rattle.types.specs.contracts.entries.TypeEntryPartialEq.TheImpl.{eq-value}
+use Rattle.types.specs.declared.entries.TypeEntry.TheVariants.{Unused, CodeUnit, NumberLiteral, StringLiteral, Function, Pair, List as ListOf, Union}
 use Rattle.types.specs.declared.kinds.Kind.{Kind}
 use Rattle.types.specs.declared.kinds.Kind.TheVariants as kinds
 use Rattle.types.specs.declared.kinds.Verdict.TheVariants as verdicts
@@ -13,7 +14,8 @@ use Rattle.types.specs.Values.{Decimal, Text, Value, a_number, a_string, a_funct
 use Rattle.types.specs.Types.{Ty, Types, any, number_literal, string_literal, union, pair, list, ◌and◌, count, Meet, Belongs, in_any, in_number_literal, in_string_literal, in_function, in_pair, pair_in_list, in_union, BelongsToSome, to_first, to_other}
 use Rattle.std.specs.Option.{unwrap_or}
 use Rattle.types.specs.declared.entries.Root.{Root}
-use Rattle.types.specs.Roots.{root_at, SaysSomeMeet, SaysMeetByParts}
+use Rattle.types.specs.Roots.{root_at}
+use Rattle.types.specs.Inner.{SaysSomeMeet, SaysMeetByParts}
 use Rattle.types.specs.Table.{entry_at, UnitsAt, Is, is_any, is_number, is_number_literal, is_string, is_string_literal, is_boolean, is_true, is_false, is_undefined, is_null, is_function, is_pair, is_list, is_union, Run, run_end, run_more, SaysMeet, SaysSame}
 use Rattle.types.specs.Kinds.{OfKind, number_kind, number_literal_kind, string_kind, string_literal_kind, boolean_kind, true_kind, false_kind, undefined_kind, null_kind, function_kind, pair_kind, list_kind, entry_kind, ◌isKind◌, Class, numbers, strings, trues, falses, undefineds, nulls, functions, pairs, part, verdict, Says}
 use Rattle.types.proofs.Inhabited.{inhabited}
@@ -325,6 +327,30 @@ units_same es first other us vs long u v same =
     let c = same k lt in
     let e : get_or us k 0 ≡ get_or vs k 0 = cc in
     get_or_default us k d 0 lt ∙ e ∙ get_or_default vs k 0 d here)
+
+-- the derived test of two entries
+pub entries_Decides : (a b : TypeEntry) → Decides (eq-value.it a b) (a ≡ b)
+entries_Decides a b = search rules
+
+-- a part of the table, as a slice
+part_at : (es : List TypeEntry) (first size k : ℕ) (x : TypeEntry) → k < size → first + size ≤ length es → get_or (take (first + size - first) (drop first es)) k x ≡ entry_at es (first + k)
+part_at es first size k x lt low =
+    let l : k < first + size - first = omega arith in
+    let m : first + k < length es = omega arith in
+    rw (get_or-take, get_or-drop) (get_or_default es (first + k) x Unused m)
+
+part_long : (es : List TypeEntry) (first size : ℕ) → first + size ≤ length es → length (take (first + size - first) (drop first es)) ≡ size
+part_long es first size low = simp (length-take, length-drop) (omega arith)
+
+pub units_alike : (es : List TypeEntry) (first other : ℕ) {size : ℕ} {r : Bool} (us vs : List ℕ) → length us ≡ size → length vs ≡ size → first + size ≤ length es → other + size ≤ length es → UnitsAt es first us → UnitsAt es other vs → Decides r (take (first + size - first) (drop first es) ≡ take (other + size - other) (drop other es)) → Decides r (us ≡ vs)
+units_alike es first other {size} us vs p q low high u v d =
+    let m = part_long es first size low in
+    let n = part_long es other size high in (
+      λ o. units_same es first other us vs (p ∙ sym q) u v (λ k lt. let l : k < size = omega arith in sym (part_at es first size k Unused l low) ∙ ap (λ l. entry_at l k) (d.0 o) ∙ part_at es other size k Unused l high),
+      λ e. d.1 (same_lists _ _ (m ∙ sym n) (λ k x lt.
+          let l : k < size = omega arith in
+          part_at es first size k x l low ∙ u k (omega arith) ∙ ap (λ ws. CodeUnit (slice_index ws k)) e ∙ sym (v k (omega arith)) ∙ sym (part_at es other size k x l high))),
+    )
 
 pub units_agree : (es : List TypeEntry) (first : ℕ) (us vs : List ℕ) → length us ≡ length vs → UnitsAt es first us → UnitsAt es first vs → us ≡ vs
 units_agree es first us vs long u v = units_same es first first us vs long u v (λ m lt. refl)

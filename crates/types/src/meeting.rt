@@ -1,6 +1,6 @@
 // Whether two types of a type table have a common value.
+ghost use Rattle.types.specs.Inner.{SaysMeetByParts, SaysSomeMeet};
 ghost use Rattle.types.specs.Table.{SaysMeet};
-ghost use Rattle.types.specs.Roots.{SaysMeetByParts, SaysSomeMeet};
 
 use crate::compare::same_units;
 use crate::entries::{Root, TypeEntry};

@@ -1,6 +1,8 @@
-use Rattle.std.proofs.Common.{sym, refl, ◌∙◌, arith}
-use Rattle.types.proofs.Parts.{units_same}
+use Rattle.std.proofs.Common.{rules}
+use Rattle.std.proofs.lemmas.Slice.Eq.{slice_eq-Decides}
+use Rattle.types.proofs.Parts.{entries_Decides, units_alike}
 use Rattle.types.proofs.compare.same_units.Goals as goal
 
-pub returns : goal.returns
-returns c us vs p q low high u v = (λ e. units_same _ _ _ us vs (p ∙ sym q) u v (λ m lt. c.loop-k.invariant m (omega arith)), λ e. refl)
+pub returns-then-run_below-2 : goal.returns-then-run_below-2
+returns-then-run_below-2 c us vs p q low high u v =
+    units_alike c.args.types.now _ _ us vs p q low high u v (slice_eq-Decides entries_Decides _ _ _ c.eq.ensures)
