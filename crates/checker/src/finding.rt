@@ -1,16 +1,17 @@
 // Findings.
 
+// The discriminants are the numbers that are reported.
 #[derive(Clone, Copy, PartialEq, Eq, Debug)]
 pub enum Kind {
     // no finding
-    Blank,
+    Blank = 0,
     // a type condition or comparison that is not met
-    Clash,
+    Clash = 1,
     // a name that its register lacks
-    UnknownName,
+    UnknownName = 2,
 }
 
-#[derive(Clone, Copy)]
+#[derive(Clone, Copy, PartialEq, Eq, Debug)]
 pub struct Finding {
     pub kind: Kind,
     pub place: usize,

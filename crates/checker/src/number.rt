@@ -8,10 +8,6 @@ impl Kind {
     pub fn number(self) -> u8
         ensures { result ≡ number_of self }
     {
-        match self {
-            Kind::Blank => 0,
-            Kind::Clash => 1,
-            Kind::UnknownName => 2,
-        }
+        self as u8
     }
 }
