@@ -1,6 +1,8 @@
 // Findings.
+ghost use Rattle.std.specs.Prelude.{◌≡◌};
+ghost use Rattle.checker.specs.Findings.{number_of};
 
-// The discriminants are the numbers that are reported.
+// The discriminants are the numbers by which findings are reported.
 #[derive(Clone, Copy, PartialEq, Eq, Debug)]
 pub enum Kind {
     // no finding
@@ -9,6 +11,14 @@ pub enum Kind {
     Clash = 1,
     // a name that its register lacks
     UnknownName = 2,
+}
+
+impl Kind {
+    pub fn number(self) -> u8
+        ensures { result ≡ number_of self }
+    {
+        self as u8
+    }
 }
 
 #[derive(Clone, Copy, PartialEq, Eq, Debug)]

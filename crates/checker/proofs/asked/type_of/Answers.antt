@@ -1,14 +1,18 @@
-use Rattle.std.proofs.Common.{sym, subst, arith}
-use Rattle.checker.specs.Orders.{NotTold, short_table, no_expression, damaged}
+use Rattle.std.proofs.Common.{arith}
+use Rattle.checker.specs.Orders.{short_table, no_expression, damaged}
 use Rattle.checker.proofs.Checking.{refuted}
 use Rattle.checker.proofs.asked.type_of.Goals as goal
 
 pub returns-then-types-lt-TYPES : goal.returns-then-types-lt-TYPES
-returns-then-types-lt-TYPES c = subst (NotTold _ _ _) (sym c.refused.ensures) (short_table c.if-types-lt-TYPES.true)
+returns-then-types-lt-TYPES c = rw c.refused.ensures (short_table c.if-types-lt-TYPES.true)
 
 pub returns-then-number-expressions : goal.returns-then-number-expressions
-returns-then-number-expressions c = subst (NotTold _ _ _) (sym c.refused-then-number-expressions.ensures) (no_expression c.if-types-lt-TYPES.false (omega (arith, c.if-number-expressions.true, c.expressions.ensures)))
+returns-then-number-expressions c =
+    rw c.refused-then-number-expressions.ensures (no_expression c.if-types-lt-TYPES.false (omega (arith, c.if-number-expressions.true, c.expressions.ensures)))
 
 pub returns-then-not-in_order : goal.returns-then-not-in_order
-returns-then-not-in_order c = subst (NotTold _ _ _) (sym c.refused-then-not-in_order.ensures)
-    (damaged c.if-types-lt-TYPES.false (omega (arith, c.if-number-expressions.false, c.expressions.ensures)) (refuted _ c.in_order.ensures c.if-not-in_order.true))
+returns-then-not-in_order c =
+    rw c.refused-then-not-in_order.ensures (
+    damaged c.if-types-lt-TYPES.false (omega (arith, c.if-number-expressions.false, c.expressions.ensures))
+    (refuted _ c.in_order.ensures c.if-not-in_order.true)
+    )
