@@ -1,4 +1,3 @@
-pub mod Keeping
 pub mod Stored
 pub mod Orderly
 pub mod Tested
@@ -18,3 +17,4 @@ pub mod Ordered
 pub mod Starting
 pub mod Checking
 pub mod Running
+pub mod Ranged

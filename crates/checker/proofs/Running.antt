@@ -1,7 +1,8 @@
 -- One call, and one call more. Assumes nothing.
-use Rattle.std.proofs.Common.{◌≡◌, ℕ, ◌+◌, ◌<◌, ◌≢◌, List, length, get_or, set, None, Ok, Err, Option, Result, sym, refl, ap, ◌∙◌, subst, ⊎_elim, arith}
-use Rattle.std.specs.Result.{result_ok}
-use Rattle.std.proofs.lemmas.List.{get_or_default, get_or-set_same, get_or-set_other}
+use Rattle.std.proofs.Common.{◌≡◌, ℕ, ◌+◌, ◌<◌, ◌≤◌, ◌≢◌, List, length, get_or, set, take, Ok, Err, Option, Result, sym, ap, ◌∙◌, subst, ⊎_elim, arith}
+use Rattle.std.specs.Result.{result_ok, MatchResult, IsErrAnd}
+use Rattle.std.proofs.lemmas.Result.{err_from_is_err_and}
+use Rattle.std.proofs.lemmas.List.{get_or-take, get_or_default, get_or-set_same, get_or-set_other}
 use Rattle.std.proofs.lemmas.Bool.{cases_lt}
 use Rattle.lexer.specs.declared.refusal.Refusal.{Refusal}
 use Rattle.types.specs.declared.entries.TypeEntry.{TypeEntry}
@@ -12,22 +13,24 @@ use Rattle.parser.specs.Syntax.{Expr}
 use Rattle.parser.specs.Reading as reading
 use Rattle.parser.specs.Reading.{Sizes, Short, Fault, Reads, Represents, Written}
 use Rattle.checker.specs.declared.calls.Call.{Call}
-use Rattle.checker.specs.declared.calls.Call.TheVariants.{Check}
+use Rattle.checker.specs.declared.calls.Call.TheVariants.{Check as CheckCall}
 use Rattle.checker.specs.declared.calls.Answer.{Answer}
 use Rattle.checker.specs.declared.calls.Answer.TheVariants.{Blank, CheckRefused}
 use Rattle.checker.specs.declared.finding.Finding.{Finding}
+use Rattle.checker.specs.declared.run.Refused.{Refused}
+use Rattle.checker.specs.declared.run.Refused.TheVariants.{Read as Unread, Check}
 use Rattle.checker.specs.declared.stage.Checked.{Checked}
 use Rattle.checker.specs.Rules.{types}
 use Rattle.checker.specs.Checks as checks
 use Rattle.checker.specs.Checks.{CheckedAs, Refuses, Checks}
-use Rattle.checker.specs.Runs.{Readable, Law, AnswersTo, too_heavy, checked, Answers, sheet_of, Left, nothing_left, checked_left, Lawful}
-use Rattle.checker.specs.Performing.{Performs, saying}
+use Rattle.checker.specs.Runs.{Readable, Law, AnswersTo, read_refused, too_heavy, checked, Answers, sheet_of, Left, nothing_left, checked_left, Lawful}
+use Rattle.checker.specs.Performing.{Performs, refusing, saying}
 
 -- tables of the same sizes
 pub same_sizes : {a b c d a' b' c' d' : ℕ} → a ≡ a' → b ≡ b' → c ≡ c' → d ≡ d' → ◌≡◌ {A = Sizes} (record { of_tree = a; of_operators = b; of_frames = c; of_types = d }) (record { of_tree = a'; of_operators = b'; of_frames = c'; of_types = d' })
 same_sizes {a} {b} {c} {d} {a'} {b'} {c'} e f g h = ap (λ x. record { of_tree = x; of_operators = b; of_frames = c; of_types = d }) e ∙ (ap (λ x. record { of_tree = a'; of_operators = x; of_frames = c; of_types = d }) f ∙ (ap (λ x. record { of_tree = a'; of_operators = b'; of_frames = x; of_types = d }) g ∙ ap (λ x. record { of_tree = a'; of_operators = b'; of_frames = c'; of_types = x }) h))
 
-pub performs_as : {s s' : Sizes} (Γ : Meaning) (sheet : List ℕ) (r : Result Checked Answer) (listed : List Finding) (es : List TypeEntry) → s ≡ s' → Performs s Γ sheet r listed es → Performs s' Γ sheet r listed es
+pub performs_as : {s s' : Sizes} (Γ : Meaning) (sheet : List ℕ) (r : Result Checked Refused) (listed : List Finding) (es : List TypeEntry) → s ≡ s' → Performs s Γ sheet r listed es → Performs s' Γ sheet r listed es
 performs_as Γ sheet r listed es e p = subst (λ s. Performs s Γ sheet r listed es) e p
 
 module _ {s : Sizes} {sheet : List ℕ} {tree : List TreeEntry} {read : Read} (h : Reads s sheet tree (Ok read)) where
@@ -35,14 +38,28 @@ module _ {s : Sizes} {sheet : List ℕ} {tree : List TreeEntry} {read : Read} (h
   readable = record { faultless = h.0; written = h.1.1.written; only = h.1.1.only }
 
   -- a check of what was read is refused for its load alone
-  pub refused_heavy : {Γ : Meaning} {e : Refusal} (s' : Sizes) → s' ≡ s → Refuses s' sheet tree read Γ e → AnswersTo s Γ sheet (CheckRefused e)
+  refused_heavy : {Γ : Meaning} {e : Refusal} (s' : Sizes) → s' ≡ s → Refuses s' sheet tree read Γ e → AnswersTo s Γ sheet (CheckRefused e)
   refused_heavy s' same (checks.short_table x) = absurd (h.0 _ _ (reading.short_table (subst Short same x)))
   refused_heavy s' same (checks.damaged x y) = absurd (y h.1.1.proper)
   refused_heavy s' same (checks.too_heavy x y z) = too_heavy h.1.0 readable (λ ns typed. z h.1.0 ns h.1.1 typed)
 
-  -- or it answers the law
-  pub checked_ok : {Γ : Meaning} {c : Checked} {listed : List Finding} {es : List TypeEntry} → ((ss : List Expr) → Represents sheet tree read ss → CheckedAs sheet Γ ss c listed es) → (ss : List Expr) × Readable s sheet ss × CheckedAs sheet Γ ss c listed es
-  checked_ok k = (h.1.0, readable, k h.1.0 h.1.1)
+  -- what the check of what was read comes to, its refusal said as a call's
+  pub performs_check : (Γ : Meaning) (s' : Sizes) (listed : List Finding) (es : List TypeEntry) (Gives : Refusal × Read → Refused → Type 0) (r : Result Checked (Refusal × Read)) (m : Result Checked Refused)
+      → s' ≡ s → Checks s' sheet tree read Γ r listed es → MatchResult r (λ c. m ≡ Ok c) (λ e. IsErrAnd m (Gives e)) → ((e : Refusal × Read) (d : Refused) → Gives e d → d ≡ Check e.0) → Performs s Γ sheet m listed es
+  performs_check Γ s' listed es Gives (Ok c) m same k t says = subst (λ x. Performs s Γ sheet x listed es) (sym t) (h.1.0, readable, k.2 h.1.0 h.1.1)
+  performs_check Γ s' listed es Gives (Err e) m same k t says =
+      let d = err_from_is_err_and m t in subst (λ x. Performs s Γ sheet x listed es) (sym (d.1 ∙ ap Err (says e d.0 d.2))) (refused_heavy s' same k.0)
+
+-- what a reading came to, its refusal said as a call's
+pub was_read : (s : Sizes) (sheet : List ℕ) (tree : List TreeEntry) (read : Read) (r : Result Read Refusal) → Reads s sheet tree r → MatchResult r (λ x. ◌≡◌ {A = Result Read Refused} (Ok read) (Ok x)) (λ e. ⊥) → Reads s sheet tree (Ok read)
+was_read s sheet tree read (Ok x) h t = subst (λ y. Reads s sheet tree (Ok y)) (cc) h
+was_read s sheet tree read (Err e) h t = absurd t
+
+pub not_read : (s : Sizes) (sheet : List ℕ) (tree : List TreeEntry) (Γ : Meaning) (Gives : Refusal → Refused → Type 0) (r : Result Read Refusal) (m : Result Read Refused) (d : Refused)
+    → Reads s sheet tree r → MatchResult r (λ x. m ≡ Ok x) (λ e. IsErrAnd m (Gives e)) → ((e : Refusal) (d : Refused) → Gives e d → d ≡ Unread e) → m ≡ Err d → AnswersTo s Γ sheet (refusing d)
+not_read s sheet tree Γ Gives (Ok x) m d h t says is = absurd (cc)
+not_read s sheet tree Γ Gives (Err e) m d h t says is =
+    let k : IsErrAnd {T = Read} (Err d) (Gives e) = subst (λ x. IsErrAnd x (Gives e)) is t in subst (λ y. AnswersTo s Γ sheet (refusing y)) (sym (says e d k)) (read_refused h)
 
 law_of : {sheet : List ℕ} {Γ : Meaning} {ss : List Expr} {c : Checked} {listed : List Finding} {es : List TypeEntry} → CheckedAs sheet Γ ss c listed es → Law sheet Γ ss c.count c.expressions
 law_of k = record {
@@ -59,29 +76,26 @@ law_of k = record {
   same_types = λ d. ap types (k.alone d.notes d.typed);
 }
 
-answers : (s : Sizes) (Γ : Meaning) (sheet : List ℕ) (r : Result Checked Answer) (listed : List Finding) (es : List TypeEntry) → Performs s Γ sheet r listed es → AnswersTo s Γ sheet (saying r)
+answers : (s : Sizes) (Γ : Meaning) (sheet : List ℕ) (r : Result Checked Refused) (listed : List Finding) (es : List TypeEntry) → Performs s Γ sheet r listed es → AnswersTo s Γ sheet (saying r)
 answers s Γ sheet (Ok c) listed es p = checked p.0 p.1 (law_of p.2)
 answers s Γ sheet (Err a) listed es p = p
 
-answers_call : (s : Sizes) (Γ Δ : Meaning) (c : Call) (r : Result Checked Answer) (listed : List Finding) (es : List TypeEntry) → Performs s Γ (sheet_of c) r listed es → Answers s Γ Δ c (saying r)
-answers_call s Γ Δ (Check sheet) r listed es p = answers s Γ sheet.now r listed es p
+answers_call : (s : Sizes) (Γ Δ : Meaning) (c : Call) (r : Result Checked Refused) (listed : List Finding) (es : List TypeEntry) → Performs s Γ (sheet_of c) r listed es → Answers s Γ Δ c (saying r)
+answers_call s Γ Δ (CheckCall sheet) r listed es p = answers s Γ sheet.now r listed es p
 
 -- what is left of a call
-leaves : (s : Sizes) (Γ : Meaning) (sheet : List ℕ) (r : Result Checked Answer) (listed : List Finding) (es : List TypeEntry) → Performs s Γ sheet r listed es → Left s Γ sheet listed es (result_ok r)
+leaves : (s : Sizes) (Γ : Meaning) (sheet : List ℕ) (r : Result Checked Refused) (listed : List Finding) (es : List TypeEntry) → Performs s Γ sheet r listed es → Left s Γ sheet listed es (result_ok r)
 leaves s Γ sheet (Ok c) listed es p = checked_left p.0 p.1 p.2
 leaves s Γ sheet (Err a) listed es p = nothing_left
 
-pub lawful_none : {s : Sizes} {Γ Δ : Meaning} {calls : List Call} {said : List Answer} {listed : List Finding} {es : List TypeEntry} → Lawful s Γ Δ calls said said 0 listed es None
-lawful_none = record { law = λ i d h. absurd (omega arith); rest = λ i h. refl; left = λ i d h. absurd (omega arith); none = λ h. refl }
-
-pub lawful_more : (s : Sizes) (Γ Δ : Meaning) (calls : List Call) (said told : List Answer) (n : ℕ) {listed : List Finding} {es : List TypeEntry} {last : Option Checked} (d : Call) (r : Result Checked Answer) (a : Answer) (listed' : List Finding) (es' : List TypeEntry) (last' : Option Checked)
-    → Lawful s Γ Δ calls said told n listed es last → n < length calls → n < length told → Performs s Γ (sheet_of (get_or calls n d)) r listed' es' → a ≡ saying r → last' ≡ result_ok r
+pub lawful_more : (s : Sizes) (Γ Δ : Meaning) (calls : List Call) (said told : List Answer) (n m : ℕ) {listed : List Finding} {es : List TypeEntry} {last : Option Checked} (d : Call) (r : Result Checked Refused) (a : Answer) (listed' : List Finding) (es' : List TypeEntry) (last' : Option Checked)
+    → Lawful s Γ Δ calls said told n listed es last → n < m → m ≤ length calls → m ≤ length told → Performs s Γ (sheet_of (get_or (take m calls) n d)) r listed' es' → a ≡ saying r → last' ≡ result_ok r
     → Lawful s Γ Δ calls said (set told n a) (n + 1) listed' es' last'
-lawful_more s Γ Δ calls said told n d r a listed' es' last' h one within p is ok = record {
+lawful_more s Γ Δ calls said told n m d r a listed' es' last' h here one within q is ok = record {
   law = λ i e l. ⊎_elim
       (λ q. let ne : i ≢ n = omega arith in subst (Answers s Γ Δ (get_or calls i e)) (sym (get_or-set_other told n i a Blank ne)) (h.law i e q))
       (λ q. let at : n ≡ i = omega arith in subst (λ k. Answers s Γ Δ (get_or calls k e) (get_or (set told n a) k Blank)) at
-      (subst (λ x. Answers s Γ Δ (get_or calls n e) x) (sym (get_or-set_same told n a Blank within ∙ is)) (subst (λ x. Answers s Γ Δ x (saying r)) (sym (call e)) (answers_call s Γ Δ (get_or calls n d) r listed' es' p))))
+      (subst (λ x. Answers s Γ Δ (get_or calls n e) x) (sym (get_or-set_same told n a Blank (omega arith) ∙ is)) (subst (λ x. Answers s Γ Δ x (saying r)) (sym (call e)) (answers_call s Γ Δ (get_or calls n d) r listed' es' p))))
       (cases_lt i n);
   rest = λ i l. let ne : i ≢ n = omega arith in get_or-set_other told n i a Blank ne ∙ h.rest i (omega arith);
   left = λ i e q. let at : n ≡ i = omega arith in subst (λ k. Left s Γ (sheet_of (get_or calls k e)) listed' es' last') at (subst (λ x. Left s Γ (sheet_of x) listed' es' last') (sym (call e)) (subst (Left s Γ (sheet_of (get_or calls n d)) listed' es') (sym ok) (leaves s Γ (sheet_of (get_or calls n d)) r listed' es' p)));
@@ -89,7 +103,7 @@ lawful_more s Γ Δ calls said told n d r a listed' es' last' h one within p is 
 }
   where
     call : (e : Call) → get_or calls n e ≡ get_or calls n d
-    call e = get_or_default calls n e d one
+    call e = get_or_default calls n e d (omega arith)
 
-pub lawful_all : {s : Sizes} {Γ Δ : Meaning} {calls : List Call} {said told : List Answer} {n m : ℕ} {listed : List Finding} {es : List TypeEntry} {last : Option Checked} → n ≡ m → Lawful s Γ Δ calls said told n listed es last → Lawful s Γ Δ calls said told m listed es last
-lawful_all {s} {Γ} {Δ} {calls} {said} {told} {listed = listed} {es = es} {last = last} e h = subst (λ k. Lawful s Γ Δ calls said told k listed es last) e h
+    p : Performs s Γ (sheet_of (get_or calls n d)) r listed' es'
+    p = subst (λ x. Performs s Γ (sheet_of x) r listed' es') (get_or-take m calls n d here) q

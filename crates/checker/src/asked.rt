@@ -1,6 +1,7 @@
 // The type of an expression of a checked sheet.
-ghost use Rattle.std.specs.Prelude.{◌≡◌, Decides};
-ghost use Rattle.checker.specs.Orders.{HeadsInOrder, NoUnit, Orderly, PartsInOrder, TypeTold};
+ghost use Rattle.std.specs.Prelude.{◌≡◌, ◌-◌, Decides};
+ghost use Rattle.types.specs.Table.{entry_at};
+ghost use Rattle.checker.specs.Orders.{HeadsInOrder, IsInOrder, NoUnit, Orderly, PartsInOrder, TypeTold};
 
 use crate::stage::Checked;
 use crate::store::TYPES;
@@ -15,66 +16,72 @@ fn is_orderly(i: usize, e: TypeEntry) -> bool
 {
     match e {
         TypeEntry::Unused => false,
-        TypeEntry::StringLiteral { first, count } => run_below(first, count, i),
+        TypeEntry::StringLiteral { first, count } | TypeEntry::Union { first, count } => {
+            run_below(first, count, i)
+        }
         TypeEntry::Function { first, count } => first < i && count < i - first,
         TypeEntry::Pair { head, tail } => head < i && tail < i,
         TypeEntry::List { element } => element < i,
-        TypeEntry::Union { first, count } => run_below(first, count, i),
-        TypeEntry::Any => true,
-        TypeEntry::Number => true,
-        TypeEntry::NumberLiteral { .. } => true,
-        TypeEntry::String => true,
-        TypeEntry::CodeUnit(_) => true,
-        TypeEntry::Boolean => true,
-        TypeEntry::True => true,
-        TypeEntry::False => true,
-        TypeEntry::Undefined => true,
-        TypeEntry::Null => true,
+        TypeEntry::Any
+        | TypeEntry::Number
+        | TypeEntry::NumberLiteral { .. }
+        | TypeEntry::String
+        | TypeEntry::CodeUnit(_)
+        | TypeEntry::Boolean
+        | TypeEntry::True
+        | TypeEntry::False
+        | TypeEntry::Undefined
+        | TypeEntry::Null => true,
     }
 }
 
-// Whether an entry is no code unit.
-fn is_no_unit(e: TypeEntry) -> bool
-    ensures { Decides result (NoUnit e) }
+// Whether the table has an entry at i that is in order. An entry past the end is not.
+fn is_part(types: &[TypeEntry], i: usize) -> bool
+    ensures { Decides result (Orderly i (entry_at types.now i)) }
 {
-    match e {
-        TypeEntry::CodeUnit(_) => false,
-        _ => true,
-    }
+    types.get(i).is_some_and(|e| is_orderly(i, *e))
+}
+
+// The same of the type of an expression, which no code unit is.
+fn is_head(types: &[TypeEntry], i: usize) -> bool
+    ensures { Decides result (Orderly i (entry_at types.now i) × NoUnit (entry_at types.now i)) }
+{
+    is_part(types, i) && !matches!(types.get(i), Some(TypeEntry::CodeUnit(_)))
+}
+
+// Where the type of an expression stands, by the expression's number.
+fn head_of(number: usize) -> usize
+    ensures { result ≡ 8191 - number }
+{
+    (TYPES - 1).saturating_sub(number)
 }
 
 // Whether the entries of parts are in order.
 fn parts_in_order(types: &[TypeEntry], used: usize) -> bool
     ensures { Decides result (PartsInOrder types.now used) }
 {
-    for i in 0..used {
-        if i >= types.len() {
-            return false;
-        }
-        if !is_orderly(i, types[i]) {
-            return false;
-        }
-    }
-    true
+    (0..used).all(|i| is_part(types, i))
 }
 
 // Whether the entries of the expressions' types are in order.
 fn heads_in_order(types: &[TypeEntry], expressions: usize) -> bool
     ensures { Decides result (HeadsInOrder types.now expressions) }
 {
-    for k in 0..expressions {
-        let i = TYPES - 1 - k.min(TYPES - 1);
-        if i >= types.len() {
-            return false;
-        }
-        if !is_orderly(i, types[i]) {
-            return false;
-        }
-        if !is_no_unit(types[i]) {
-            return false;
-        }
-    }
-    true
+    (0..expressions).all(|k| is_head(types, head_of(k)))
+}
+
+// Whether the entries in use are in order.
+fn in_order(checked: &Checked, types: &[TypeEntry]) -> bool
+    ensures { Decides result (IsInOrder types.now checked.now.used checked.now.expressions) }
+{
+    parts_in_order(types, checked.used()) && heads_in_order(types, checked.expressions())
+}
+
+// A refusal that is about no place of the sheet.
+fn refused(reason: Reason) -> Refusal
+    ensures { result ≡ record { reason = reason; place = 0 } }
+{
+    Refusal { reason, place: 0 }
 }
 
 // The entry that holds the type of an expression, by the expression's number.
@@ -82,28 +89,13 @@ pub fn type_of(checked: &Checked, types: &[TypeEntry], number: usize) -> Result<
     ensures { TypeTold types.now checked.now number result }
 {
     if types.len() < TYPES {
-        return Err(Refusal {
-            reason: Reason::ShortTable,
-            place: 0,
-        });
+        return Err(refused(Reason::ShortTable));
     }
     if number >= checked.expressions() {
-        return Err(Refusal {
-            reason: Reason::NoExpression,
-            place: 0,
-        });
+        return Err(refused(Reason::NoExpression));
     }
-    if !parts_in_order(types, checked.used()) {
-        return Err(Refusal {
-            reason: Reason::Damaged,
-            place: 0,
-        });
+    if !in_order(checked, types) {
+        return Err(refused(Reason::Damaged));
     }
-    if !heads_in_order(types, checked.expressions()) {
-        return Err(Refusal {
-            reason: Reason::Damaged,
-            place: 0,
-        });
-    }
-    Ok(TYPES - 1 - number.min(TYPES - 1))
+    Ok(head_of(number))
 }

@@ -1,16 +1,27 @@
 // Findings.
+ghost use Rattle.std.specs.Prelude.{◌≡◌};
+ghost use Rattle.checker.specs.Findings.{number_of};
 
+// The discriminants are the numbers by which findings are reported.
 #[derive(Clone, Copy, PartialEq, Eq, Debug)]
 pub enum Kind {
     // no finding
-    Blank,
+    Blank = 0,
     // a type condition or comparison that is not met
-    Clash,
+    Clash = 1,
     // a name that its register lacks
-    UnknownName,
+    UnknownName = 2,
 }
 
-#[derive(Clone, Copy)]
+impl Kind {
+    pub fn number(self) -> u8
+        ensures { result ≡ number_of self }
+    {
+        self as u8
+    }
+}
+
+#[derive(Clone, Copy, PartialEq, Eq, Debug)]
 pub struct Finding {
     pub kind: Kind,
     pub place: usize,

@@ -3,6 +3,9 @@ ghost use Rattle.std.specs.Prelude.{◌≡◌, ◌^◌, ◌<◌, List, [], ◌�
 ghost use Rattle.checker.specs.Findings.{FirstOf};
 ghost use Rattle.checker.specs.Keeping.{Keeps};
 
+use crate::finding::Finding;
+
+// The list is lent and may be short, so the count, which is of all entries, stands beside it.
 #[derive(Drop)]
 pub struct First<'a, T> {
     pub slots: &'a mut [T],
@@ -10,12 +13,10 @@ pub struct First<'a, T> {
 }
 
 // Makes each slot blank.
-pub fn blank_out<T: Copy>(slots: &mut [T], blank: T)
+pub fn blank_out(slots: &mut [Finding], blank: Finding)
     ensures { FirstOf blank slots.new [] }
 {
-    for x in slots.iter_mut() {
-        *x = blank;
-    }
+    slots.fill(blank);
 }
 
 impl<'a, T: Copy> First<'a, T> {
@@ -24,10 +25,10 @@ impl<'a, T: Copy> First<'a, T> {
         ensures lent { self.new.slots.ghost_name ≡ self.old.slots.ghost_name }
         ensures kept { (d : T) (xs : List T) → Keeps d self.old xs → length xs < 2 ^ 32 → Keeps d self.new (xs ++ x ∷ []) }
     {
-        let at = self.count;
-        self.count = at.saturating_add(1);
-        if at < self.slots.len() {
-            self.slots[at] = x;
+        // Not by `get_mut`: the proof then knows no slot afterwards, and `returns-clause-kept` stays open.
+        if self.count < self.slots.len() {
+            self.slots[self.count] = x;
         }
+        self.count = self.count.saturating_add(1);
     }
 }

@@ -2,22 +2,16 @@
 ghost use Rattle.checker.specs.Laws.{FindingsTell, OneTyping, TypingExists};
 
 // An expression has at most one type, and sets one list of conditions.
-pub fn typings_are_one() -> u8
+pub fn typings_are_one()
     ensures { OneTyping }
-{
-    0
-}
+{}
 
 // In a sound scope the program of a sheet has a typing.
-pub fn typings_exist() -> u8
+pub fn typings_exist()
     ensures { TypingExists }
-{
-    0
-}
+{}
 
 // Conditions have one list of findings, and it is empty just where each condition is met.
-pub fn findings_tell() -> u8
+pub fn findings_tell()
     ensures { FindingsTell }
-{
-    0
-}
+{}

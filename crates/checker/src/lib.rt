@@ -10,7 +10,6 @@ pub mod finding;
 mod first;
 pub mod laws;
 mod making;
-mod number;
 mod proper;
 mod rules;
 pub mod run;

@@ -1,16 +1,37 @@
 // Whole runs of calls.
 ghost use Rattle.std.specs.Prelude.{◌≡◌, length};
-ghost use Rattle.checker.specs.Performing.{Performs, saying};
+ghost use Rattle.checker.specs.Performing.{Performs, refusing, saying};
 ghost use Rattle.checker.specs.Runs.{RunsLawfully, sheet_of};
 
 use crate::calls::{Answer, Call};
 use crate::check::check;
 use crate::finding::Finding;
 use crate::stage::Checked;
+use lexer::refusal::Refusal;
 use parser::read;
 use parser::tree::{OperatorEntry, TreeEntry, WalkFrame};
 use registers::register::Register;
 use types::entries::TypeEntry;
+
+// Why a sheet was not checked.
+#[derive(Clone, Copy)]
+enum Refused {
+    // it could not be read
+    Read(Refusal),
+    // it was read, and could not be checked
+    Check(Refusal),
+}
+
+impl From<Refused> for Answer {
+    ghost from_gives = { λ refused answer. answer ≡ refusing refused };
+
+    fn from(refused: Refused) -> Answer {
+        match refused {
+            Refused::Read(e) => Answer::ReadRefused(e),
+            Refused::Check(e) => Answer::CheckRefused(e),
+        }
+    }
+}
 
 // Reads a sheet, and checks it.
 fn read_and_check<F: Register, S: Register>(
@@ -22,54 +43,50 @@ fn read_and_check<F: Register, S: Register>(
     frames: &mut [WalkFrame],
     types: &mut [TypeEntry],
     findings: &mut [Finding],
-) -> Result<Checked, Answer>
+) -> Result<Checked, Refused>
     ensures { Performs (record { of_tree = length tree.old; of_operators = length operators.old; of_frames = length frames.old; of_types = length types.old }) (F.Register.meaning first.now) sheet.now result findings.new types.new }
 {
-    match read(sheet, tree, operators, frames, types) {
-        Ok(reading) => {
-            match check(
-                reading, sheet, tree, first, second, operators, frames, types, findings,
-            ) {
-                Ok(checked) => Ok(checked),
-                Err((e, _)) => Err(Answer::CheckRefused(e)),
-            }
-        }
-        Err(e) => Err(Answer::ReadRefused(e)),
-    }
+    let reading = read(sheet, tree, operators, frames, types).map_err(Refused::Read)?;
+    check(
+        reading, sheet, tree, first, second, operators, frames, types, findings,
+    )
+    .map_err(|(e, _)| Refused::Check(e))
 }
 
-// Makes one call.
-fn perform<F: Register, S: Register>(
-    call: Call<'_>,
-    first: &F,
-    second: &S,
-    tree: &mut [TreeEntry],
-    operators: &mut [OperatorEntry],
-    frames: &mut [WalkFrame],
-    types: &mut [TypeEntry],
-    findings: &mut [Finding],
-) -> Result<Checked, Answer>
-    ensures { Performs (record { of_tree = length tree.old; of_operators = length operators.old; of_frames = length frames.old; of_types = length types.old }) (F.Register.meaning first.now) (sheet_of call.entry) result findings.new types.new }
-{
-    match call {
-        Call::Check { sheet } => {
-            read_and_check(
-                sheet, first, second, tree, operators, frames, types, findings,
-            )
+impl Call<'_> {
+    // Makes the call.
+    fn perform<F: Register, S: Register>(
+        self,
+        first: &F,
+        second: &S,
+        tree: &mut [TreeEntry],
+        operators: &mut [OperatorEntry],
+        frames: &mut [WalkFrame],
+        types: &mut [TypeEntry],
+        findings: &mut [Finding],
+    ) -> Result<Checked, Refused>
+        ensures { Performs (record { of_tree = length tree.old; of_operators = length operators.old; of_frames = length frames.old; of_types = length types.old }) (F.Register.meaning first.now) (sheet_of self.entry) result findings.new types.new }
+    {
+        match self {
+            Call::Check { sheet } => {
+                read_and_check(
+                    sheet, first, second, tree, operators, frames, types, findings,
+                )
+            }
         }
     }
 }
 
 // What is said of a sheet that was checked, or was not.
-fn said_of(r: &Result<Checked, Answer>) -> Answer
-    ensures { result ≡ saying r.now }
+fn said_of(outcome: &Result<Checked, Refused>) -> Answer
+    ensures { result ≡ saying outcome.now }
 {
-    match r {
-        Ok(c) => Answer::Checked {
-            count: c.count(),
-            expressions: c.expressions(),
+    match outcome {
+        Ok(checked) => Answer::Checked {
+            count: checked.count(),
+            expressions: checked.expressions(),
         },
-        Err(a) => *a,
+        Err(refused) => Answer::from(*refused),
     }
 }
 
@@ -89,13 +106,12 @@ pub fn run<F: Register, S: Register>(
     ensures { RunsLawfully (record { of_tree = length tree.old; of_operators = length operators.old; of_frames = length frames.old; of_types = length types.old }) (F.Register.meaning first.now) (S.Register.meaning second.now) calls.now said.old said.new findings.new types.new result }
 {
     let mut last = None;
-    for i in 0..calls.len().min(said.len()) {
-        let call = calls[i];
-        let r = perform(
-            call, first, second, tree, operators, frames, types, findings,
-        );
-        said[i] = said_of(&r);
-        last = r.ok();
+    let made = calls.len().min(said.len());
+    // Not over `said.iter_mut()` as well: the proof then knows no answer afterwards.
+    for (i, call) in calls[..made].iter().enumerate() {
+        let outcome = call.perform(first, second, tree, operators, frames, types, findings);
+        said[i] = said_of(&outcome);
+        last = outcome.ok();
     }
     last
 }

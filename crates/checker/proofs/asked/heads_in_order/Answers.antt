@@ -1,7 +1,8 @@
-use Rattle.std.proofs.Common.{◌-◌, arith}
-use Rattle.std.proofs.lemmas.Bool.{false≢true}
-use Rattle.checker.proofs.Ordered.{past_end}
+use Rattle.std.proofs.Common.{◌-◌, rules, refl}
+use Rattle.types.specs.Table.{entry_at}
+use Rattle.checker.specs.Orders.{Orderly, NoUnit}
+use Rattle.checker.proofs.Ranged.{decides_below}
 use Rattle.checker.proofs.asked.heads_in_order.Goals as goal
 
-pub returns-then-i-types : goal.returns-then-i-types
-returns-then-i-types c = (λ e. absurd (false≢true e), λ h. absurd (past_end _ (8191 - c.loop-k.k) (omega (arith, c.if-i-types.true, c.min.ensures)) (h c.loop-k.k c.loop-k-test.true).0))
+pub returns : goal.returns
+returns c = decides_below _ _ _ c.args.expressions (λ k. Orderly (8191 - k) (entry_at c.args.types.now (8191 - k)) × NoUnit (entry_at c.args.types.now (8191 - k))) c.all.ensures.ran refl (λ i b q k. search rules)

@@ -1,6 +1,8 @@
-use Rattle.std.proofs.lemmas.Bool.{false≢true}
-use Rattle.checker.proofs.Ordered.{past_end}
+use Rattle.std.proofs.Common.{rules, refl}
+use Rattle.types.specs.Table.{entry_at}
+use Rattle.checker.specs.Orders.{Orderly}
+use Rattle.checker.proofs.Ranged.{decides_below}
 use Rattle.checker.proofs.asked.parts_in_order.Goals as goal
 
-pub returns-then-i-types : goal.returns-then-i-types
-returns-then-i-types c = (λ e. absurd (false≢true e), λ h. absurd (past_end _ _ c.if-i-types.true (h c.loop-i.i c.loop-i-test.true)))
+pub returns : goal.returns
+returns c = decides_below _ _ _ c.args.used (λ i. Orderly i (entry_at c.args.types.now i)) c.all.ensures.ran refl (λ i b q k. search rules)

@@ -1,5 +1,7 @@
-use Rattle.checker.proofs.Orderly.{past_none}
+use Rattle.std.proofs.Common.{rules, refl}
+use Rattle.parser.specs.Table.{tree_at, Proper}
+use Rattle.checker.proofs.Ranged.{decides_below}
 use Rattle.checker.proofs.proper.proper.Goals as goal
 
-pub returns-then-i-tree : goal.returns-then-i-tree
-returns-then-i-tree c = past_none _ _ _ c.loop-i.i c.loop-i-test.true c.if-i-tree.true
+pub returns : goal.returns
+returns c = decides_below _ _ _ c.args.used (λ i. Proper c.args.sheet_len c.args.tree.now i (tree_at c.args.tree.now i)) c.all.ensures.ran refl (λ i b q k. search rules)

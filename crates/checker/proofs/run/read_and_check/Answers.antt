@@ -1,12 +1,14 @@
-use Rattle.checker.specs.Runs.{read_refused}
-use Rattle.checker.proofs.Running.{same_sizes, refused_heavy, checked_ok}
+use Rattle.std.proofs.Common.{rules}
+use Rattle.std.proofs.lemmas.Result.{err_from_is_err_and}
+use Rattle.checker.proofs.Running.{same_sizes, was_read, not_read, performs_check}
 use Rattle.checker.proofs.run.read_and_check.Goals as goal
 
-pub returns-in-Ok-check : goal.returns-in-Ok-check
-returns-in-Ok-check g c = checked_ok c.in-Ok.ensures c.in-Ok-check.ensures.2
+pub returns-in_err-reading : goal.returns-in_err-reading
+returns-in_err-reading g c =
+    let p = err_from_is_err_and c.from_residual.result c.from_residual.ensures.1 in
+    rw (p.1, p.2) (not_read _ _ _ _ _ c.read.result c.map_err.result _ c.read.ensures c.map_err.ensures.cases (λ e d k. search rules) c.in_err-reading.was)
 
-pub returns-in-Err-check : goal.returns-in-Err-check
-returns-in-Err-check g c = refused_heavy c.in-Ok.ensures _ (same_sizes c.read.auto.tree c.read.auto.operators c.read.auto.frames c.read.auto.types) c.in-Err-check.ensures.0
-
-pub returns-in-Err : goal.returns-in-Err
-returns-in-Err g c = read_refused c.in-Err.ensures
+pub returns : goal.returns
+returns g c =
+    performs_check (was_read _ _ _ _ c.read.result c.read.ensures c.in_ok-reading.ensures.cases) _ _ _ _ _ c.check.result c.map_err-2.result
+    (same_sizes c.read.auto.tree c.read.auto.operators c.read.auto.frames c.read.auto.types) c.check.ensures c.map_err-2.ensures.cases (λ e d k. search rules)
