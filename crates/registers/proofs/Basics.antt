@@ -1,18 +1,18 @@
 -- Function types of types without parts, written from the first entry on. Assumes nothing.
-use Rattle.std.proofs.Common.{◌≡◌, ℕ, ◌+◌, ◌<◌, List, length, set, Some, sym, refl, ◌∙◌, subst, zero-add, arith, rules}
+use Rattle.std.proofs.Common.{◌≡◌, ℕ, suc, ◌+◌, ◌<◌, ◌≤◌, List, [], ◌∷◌, length, get_or, sym, subst, refl, ap, ◌∙◌, set, add-zero, zero-add, below_more, arith}
+use Rattle.std.proofs.lemmas.List.{get_or-set_same, get_or-set_other, get_or_default}
 use Rattle.types.specs.declared.entries.TypeEntry.{TypeEntry}
-use Rattle.types.specs.declared.entries.TypeEntry.TheVariants.{Function}
-use Rattle.types.specs.Types.{Ty, Types, function, no_types, ◌and◌}
+use Rattle.types.specs.declared.entries.TypeEntry.TheVariants.{Unused, Function}
+use Rattle.types.specs.Types.{function}
 use Rattle.types.specs.Table.{entry_at, Holds, Is, is_any, is_number, is_string, is_boolean, is_undefined, is_function, Run, run_end, run_more}
-use Rattle.building.specs.Weights.{weight, weights}
+use Rattle.building.specs.Weights.{weights}
 use Rattle.building.specs.Made.{a_type}
 use Rattle.building.proofs.Closed.{some_weight}
 use Rattle.building.proofs.Filled.{filled_none, filled_more, run_filled}
-use Rattle.registers.specs.declared.found.Found.{Found}
 use Rattle.registers.specs.declared.standing.Basic.{Basic}
-use Rattle.registers.specs.declared.standing.Standing.{Standing}
-use Rattle.registers.specs.Standings.{basic_type, basic_entry, binding_of}
-use Rattle.registers.specs.Telling.{MadeIn, Tells}
+use Rattle.registers.specs.Standings.{basic_type, basic_types, basic_entry}
+use Rattle.registers.specs.Meaning.{typed, Fit}
+use Rattle.registers.specs.Telling.{MadeIn}
 
 basic_is : (es : List TypeEntry) (n : ℕ) (t : Basic) → Is es n (basic_entry t) (basic_type t)
 basic_is es n Basic.Any = is_any
@@ -22,47 +22,46 @@ basic_is es n Basic.Boolean = is_boolean
 basic_is es n Basic.Undefined = is_undefined
 
 -- the entry was made of the type
-entry_is : (es : List TypeEntry) (n : ℕ) (t : Basic) (e x : TypeEntry) → e ≡ x → x ≡ basic_entry t → Is es n e (basic_type t)
-entry_is es n t e x same h = subst (λ y. Is es n y (basic_type t)) (sym (same ∙ h)) (basic_is es n t)
+entry_is : (es : List TypeEntry) (n : ℕ) (t : Basic) (e : TypeEntry) → e ≡ basic_entry t → Is es n e (basic_type t)
+entry_is es n t e h = subst (λ y. Is es n y (basic_type t)) (sym h) (basic_is es n t)
 
--- the answer tells the binding of a standing that is known
-known : (es : List TypeEntry) (r : Found) (s u : Standing) → s ≡ u → Tells (Some (binding_of u)) r es → Tells (Some (binding_of s)) r es
-known es r s u is h = subst (λ x. Tells (Some (binding_of x)) r es) (sym is) h
+pub plain_made : (es : List TypeEntry) (t : Basic) (e : TypeEntry) → e ≡ basic_entry t → MadeIn es (basic_type t) (record { entry = e; used = 0 })
+plain_made es t e h = record { holds = entry_is es 0 t e h; within = omega arith; light = some_weight (basic_type t); filled = filled_none es 0 }
 
-pub plain_told : (es : List TypeEntry) (s : Standing) (t : Basic) (x : TypeEntry) → s ≡ Standing.Plain t → x ≡ basic_entry t → Tells (Some (binding_of s)) (Found.Typed (record { entry = x; used = 0 })) es
-plain_told es s t x is h =
-    known es _ s (Standing.Plain t) is (_, refl, record { holds = entry_is es 0 t x x refl h; within = omega arith; light = some_weight (basic_type t); filled = filled_none es 0 })
+-- the first n entries were made of the first n parameters
+abbrev pub ParametersAt : List TypeEntry → List Basic → ℕ → Type 0
+ParametersAt es ps n = (k : ℕ) → k < n → (d : Basic) → entry_at es k ≡ basic_entry (get_or ps k d)
+
+pub parameters_more : (es : List TypeEntry) (ps : List Basic) (i : ℕ) (e : TypeEntry) → ParametersAt es ps i → e ≡ basic_entry (get_or ps i Basic.Any) → i < length ps → i < length es → ParametersAt (set es i e) ps (i + 1)
+parameters_more es ps i e h is low room =
+    below_more (λ k. (d : Basic) → entry_at (set es i e) k ≡ basic_entry (get_or ps k d)) i
+    (λ k l d. get_or-set_other es i k e Unused (omega arith) ∙ h k l d)
+    (λ d. get_or-set_same es i e Unused room ∙ is ∙ ap basic_entry (get_or_default ps i Basic.Any d low))
+
+-- entries that were made of types are a run of them
+run_of : (es : List TypeEntry) (first : ℕ) (ts : List Basic) → ((k : ℕ) → k < length ts → (d : Basic) → entry_at es (first + k) ≡ basic_entry (get_or ts k d)) → Run es first (length ts) (basic_types ts)
+run_of es first [] h = run_end
+run_of es first (t ∷ ts) h =
+    run_more (entry_is es first t _ (ap (entry_at es) (sym (add-zero first)) ∙ h 0 (omega arith) t))
+    (run_of es (suc first) ts (λ k l d. ap (entry_at es) (omega arith) ∙ h (suc k) (omega arith) d))
+
+weigh_all : (ts : List Basic) → length ts ≤ weights (basic_types ts)
+weigh_all [] = omega arith
+weigh_all (t ∷ ts) = omega (arith, weigh_all ts, some_weight (basic_type t))
 
 -- the parameters stand first, and then the result
-function_made : (es : List TypeEntry) (n : ℕ) (ps : Types) (r : Ty) → Run es 0 n ps → Holds es n r → n < 128 → n < weights ps + weight r → MadeIn es (function ps r) (record { entry = Function 0 n; used = n + 1 })
-function_made es n ps r run h room light = record {
-  holds = is_function (omega arith) run (subst (λ k. Holds es k r) (sym (zero-add n)) h);
-  within = omega arith;
-  light = omega arith;
-  filled = filled_more 0 n refl (λ j le lt. run_filled run j le (omega arith)) (a_type h);
-}
+pub function_made : (es : List TypeEntry) (ps : List Basic) (r : Basic) → ParametersAt es ps (length ps) → entry_at es (length ps) ≡ basic_entry r → length ps < 128 →
+    MadeIn es (function (basic_types ps) (basic_type r)) (record { entry = Function 0 (length ps); used = length ps + 1 })
+function_made es ps r h last room =
+    let n = length ps in
+    let run : Run es 0 n (basic_types ps) = run_of es 0 ps (λ k l d. ap (entry_at es) (zero-add k) ∙ h k l d) in
+    let result : Holds es n (basic_type r) = entry_is es n r _ last in
+    record {
+      holds = is_function (omega arith) run (subst (λ k. Holds es k (basic_type r)) (sym (zero-add n)) result);
+      within = omega arith;
+      light = omega (arith, weigh_all ps, some_weight (basic_type r));
+      filled = filled_more 0 n refl (λ j le lt. run_filled run j le (omega arith)) (a_type result);
+    }
 
-module _ (es : List TypeEntry) (long : length es ≡ 128) (s : Standing) where
-  pub nullary_told : (r : Basic) (x : TypeEntry) → s ≡ Standing.Nullary r → x ≡ basic_entry r → Tells (Some (binding_of s)) (Found.Typed (record { entry = Function 0 0; used = 1 })) (set es 0 x)
-  nullary_told r x is h =
-      let fs = set es 0 x in
-      let result : entry_at fs 0 ≡ x = search rules in
-      known fs _ s (Standing.Nullary r) is
-      (_, refl, function_made fs 0 no_types (basic_type r) run_end (entry_is fs 0 r _ x result h) (omega arith) (omega (arith, some_weight (basic_type r))))
-
-  pub unary_told : (a r : Basic) (x y : TypeEntry) → s ≡ Standing.Unary a r → x ≡ basic_entry a → y ≡ basic_entry r → Tells (Some (binding_of s)) (Found.Typed (record { entry = Function 0 1; used = 2 })) (set (set es 0 x) 1 y)
-  unary_told a r x y is h k =
-      let fs = set (set es 0 x) 1 y in
-      let parameter : entry_at fs 0 ≡ x = search rules in
-      let result : entry_at fs 1 ≡ y = search rules in
-      known fs _ s (Standing.Unary a r) is
-      (_, refl, function_made fs 1 (basic_type a and no_types) (basic_type r) (run_more (entry_is fs 0 a _ x parameter h) run_end) (entry_is fs 1 r _ y result k) (omega arith) (omega (arith, some_weight (basic_type a), some_weight (basic_type r))))
-
-  pub binary_told : (a b r : Basic) (x y z : TypeEntry) → s ≡ Standing.Binary a b r → x ≡ basic_entry a → y ≡ basic_entry b → z ≡ basic_entry r → Tells (Some (binding_of s)) (Found.Typed (record { entry = Function 0 2; used = 3 })) (set (set (set es 0 x) 1 y) 2 z)
-  binary_told a b r x y z is h k l =
-      let fs = set (set (set es 0 x) 1 y) 2 z in
-      let parameter : entry_at fs 0 ≡ x = search rules in
-      let second : entry_at fs 1 ≡ y = search rules in
-      let result : entry_at fs 2 ≡ z = search rules in
-      known fs _ s (Standing.Binary a b r) is
-      (_, refl, function_made fs 2 (basic_type a and basic_type b and no_types) (basic_type r) (run_more (entry_is fs 0 a _ x parameter h) (run_more (entry_is fs 1 b _ y second k) run_end)) (entry_is fs 2 r _ z result l) (omega arith) (omega (arith, some_weight (basic_type a), some_weight (basic_type b), some_weight (basic_type r))))
+pub few_parameters : (ps : List Basic) (r : Basic) → Fit (typed (function (basic_types ps) (basic_type r))) → length ps < 128
+few_parameters ps r h = omega (arith, h.light, weigh_all ps, some_weight (basic_type r))

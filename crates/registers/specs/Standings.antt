@@ -1,8 +1,9 @@
 -- No public contract cites it. What the rows of the library's table stand for. Assumes nothing.
-use Rattle.std.specs.Prelude.{ℕ, List, map, Some, None, Option}
+use Rattle.std.specs.Prelude.{ℕ, List, [], ◌∷◌, map, Option}
+use Rattle.std.specs.Option.{option_map}
 use Rattle.std.specs.Borrow.{Bor}
 use Rattle.types.specs.declared.entries.TypeEntry.{TypeEntry}
-use Rattle.types.specs.Types.{Ty, any, number, string, boolean, undefined, function, no_types, ◌and◌}
+use Rattle.types.specs.Types.{Ty, Types, any, number, string, boolean, undefined, function, no_types, ◌and◌}
 use Rattle.registers.specs.declared.standing.Basic.{Basic}
 use Rattle.registers.specs.declared.standing.Standing.{Standing}
 use Rattle.registers.specs.Meaning.{Binding, typed, scheme, Line}
@@ -14,6 +15,10 @@ basic_type Basic.String = string
 basic_type Basic.Boolean = boolean
 basic_type Basic.Undefined = undefined
 
+abbrev pub basic_types : List Basic → Types
+basic_types [] = no_types
+basic_types (t ∷ ts) = basic_type t and basic_types ts
+
 abbrev pub basic_entry : Basic → TypeEntry
 basic_entry Basic.Any = TypeEntry.Any
 basic_entry Basic.Number = TypeEntry.Number
@@ -24,13 +29,10 @@ basic_entry Basic.Undefined = TypeEntry.Undefined
 abbrev pub binding_of : Standing → Binding
 binding_of (Standing.Scheme s) = scheme s
 binding_of (Standing.Plain t) = typed (basic_type t)
-binding_of (Standing.Nullary r) = typed (function no_types (basic_type r))
-binding_of (Standing.Unary a r) = typed (function (basic_type a and no_types) (basic_type r))
-binding_of (Standing.Binary a b r) = typed (function (basic_type a and basic_type b and no_types) (basic_type r))
+binding_of (Standing.Function ps r) = typed (function (basic_types ps.now) (basic_type r))
 
 abbrev pub stands : Option Standing → Option Binding
-stands (Some s) = Some (binding_of s)
-stands None = None
+stands = option_map binding_of
 
 abbrev pub table_line : Bor (List ℕ) × Standing → Line
 table_line r = (r.0.now, binding_of r.1)

@@ -6,7 +6,7 @@ use Rattle.types.specs.Table.{Is}
 use Rattle.building.specs.declared.unions.Made.{Made}
 use Rattle.building.specs.Weights.{weight}
 use Rattle.building.specs.Made.{Filled}
-use Rattle.registers.specs.declared.found.Found.{Found}
+use Rattle.registers.specs.declared.found.Told.{Told}
 use Rattle.registers.specs.Meaning.{Binding, typed, scheme}
 
 -- m is the type t, whose parts are the first entries of the run, fewer than the type weighs
@@ -17,7 +17,7 @@ pub record MadeIn (es : List TypeEntry) (t : Ty) (m : Made) : Type 0 where
   pub filled : Filled es 0 m.used  -- each stands for something
 
 -- the answer r, with the run es that was written, tells what a name is bound to
-abbrev pub Tells : Option Binding → Found → List TypeEntry → Type 0
-Tells None r es = r ≡ Found.Nothing
-Tells (Some (scheme s)) r es = r ≡ Found.Scheme s
-Tells (Some (typed t)) r es = (m : Made) × (r ≡ Found.Typed m) × MadeIn es t m
+abbrev pub Tells : Option Binding → Option Told → List TypeEntry → Type 0
+Tells None r es = r ≡ None
+Tells (Some (scheme s)) r es = r ≡ Some (Told.Scheme s)
+Tells (Some (typed t)) r es = (m : Made) × (r ≡ Some (Told.Typed m)) × MadeIn es t m

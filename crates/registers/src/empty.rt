@@ -2,7 +2,7 @@
 ghost use Rattle.registers.specs.Meaning.{nothing};
 ghost use Rattle.registers.specs.Soundness.{nothing_sound};
 
-use crate::found::Found;
+use crate::found::Told;
 use crate::register::Register;
 use types::entries::TypeEntry;
 
@@ -14,7 +14,7 @@ impl Register for Empty {
 
     ghost sound = { λ _. nothing_sound };
 
-    fn ask(&self, _name: &[u8], _room: &mut [TypeEntry; 128]) -> Found {
-        Found::Nothing
+    fn ask(&self, _name: &[u8], _room: &mut [TypeEntry; 128]) -> Option<Told> {
+        None
     }
 }

@@ -2,7 +2,7 @@
 use building::unions::Made;
 
 // A scheme, by which a call is typed.
-#[derive(Clone, Copy)]
+#[derive(Clone, Copy, PartialEq, Eq, Debug)]
 pub enum Scheme {
     Pair,
     Head,
@@ -10,10 +10,9 @@ pub enum Scheme {
     List,
 }
 
-// That the register lacks the name, or the scheme or the type that the name is bound to.
+// What a register tells of a name that it binds: the scheme or the type that the name is bound to.
 #[derive(Clone, Copy)]
-pub enum Found {
-    Nothing,
+pub enum Told {
     Scheme(Scheme),
     Typed(Made),
 }

@@ -2,7 +2,7 @@
 ghost use Rattle.registers.specs.Library.{library};
 ghost use Rattle.registers.specs.Soundness.{library_sound};
 
-use crate::found::Found;
+use crate::found::Told;
 use crate::register::Register;
 use crate::standing::told;
 use crate::table::standing_of;
@@ -16,10 +16,8 @@ impl Register for Library {
 
     ghost sound = { λ _. library_sound };
 
-    fn ask(&self, name: &[u8], room: &mut [TypeEntry; 128]) -> Found {
-        match standing_of(name) {
-            Some(standing) => told(standing, room),
-            None => Found::Nothing,
-        }
+    fn ask(&self, name: &[u8], room: &mut [TypeEntry; 128]) -> Option<Told> {
+        let standing = standing_of(name)?;
+        Some(told(standing, room))
     }
 }

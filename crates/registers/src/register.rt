@@ -2,7 +2,7 @@
 ghost use Rattle.registers.specs.Meaning.{Meaning, Sound};
 ghost use Rattle.registers.specs.Telling.{Tells};
 
-use crate::found::Found;
+use crate::found::Told;
 use types::entries::TypeEntry;
 
 pub trait Register {
@@ -12,8 +12,8 @@ pub trait Register {
     // Every binding is one that a register may have.
     ghost sound: { (r : Self) → Sound (meaning r) };
 
-    // What `name` is bound to. The parts of a type are written into `room`.
-    fn ask(&self, name: &[u8], room: &mut [TypeEntry; 128]) -> Found
+    // What `name` is bound to, or `None` where it is not bound. The parts of a type are written into `room`.
+    fn ask(&self, name: &[u8], room: &mut [TypeEntry; 128]) -> Option<Told>
         ensures { Tells (meaning self.now name.now) result room.new };
 }
 
@@ -23,7 +23,7 @@ impl<R: Register> Register for &R {
 
     ghost sound = { λ r. R.Register.sound r.now };
 
-    fn ask(&self, name: &[u8], room: &mut [TypeEntry; 128]) -> Found {
+    fn ask(&self, name: &[u8], room: &mut [TypeEntry; 128]) -> Option<Told> {
         (**self).ask(name, room)
     }
 }

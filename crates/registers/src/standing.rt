@@ -1,14 +1,16 @@
 // What the library binds its names to.
-ghost use Rattle.std.specs.Prelude.{◌≡◌, Some};
-ghost use Rattle.registers.specs.Standings.{basic_entry, binding_of};
-ghost use Rattle.registers.specs.Telling.{Tells};
+ghost use Rattle.std.specs.Prelude.{◌≡◌, ◌<◌, length, Some};
+ghost use Rattle.types.specs.Types.{function};
+ghost use Rattle.registers.specs.Meaning.{Fit};
+ghost use Rattle.registers.specs.Standings.{basic_entry, basic_type, basic_types, binding_of};
+ghost use Rattle.registers.specs.Telling.{MadeIn, Tells};
 
-use crate::found::{Found, Scheme};
+use crate::found::{Scheme, Told};
 use building::unions::Made;
 use types::entries::TypeEntry;
 
 // A type without parts.
-#[derive(Clone, Copy)]
+#[derive(Clone, Copy, PartialEq, Eq, Debug)]
 pub enum Basic {
     Any,
     Number,
@@ -17,61 +19,55 @@ pub enum Basic {
     Undefined,
 }
 
-// A scheme, a type without parts, or a function type: its parameters, and last its result.
+// A scheme, a type without parts, or a function type: its parameters and its result.
 #[derive(Clone, Copy)]
 pub enum Standing {
     Scheme(Scheme),
     Plain(Basic),
-    Nullary(Basic),
-    Unary(Basic, Basic),
-    Binary(Basic, Basic, Basic),
+    Function(&'static [Basic], Basic),
 }
 
-fn entry_of(t: Basic) -> TypeEntry
-    ensures { result ≡ basic_entry t }
+impl From<Basic> for TypeEntry {
+    ghost from_gives = { λ t e. e ≡ basic_entry t };
+
+    fn from(t: Basic) -> Self {
+        match t {
+            Basic::Any => TypeEntry::Any,
+            Basic::Number => TypeEntry::Number,
+            Basic::String => TypeEntry::String,
+            Basic::Boolean => TypeEntry::Boolean,
+            Basic::Undefined => TypeEntry::Undefined,
+        }
+    }
+}
+
+// A function type of types without parts: its parameters are written into `room`, and its result after them.
+fn told_function(parameters: &[Basic], last: Basic, room: &mut [TypeEntry; 128]) -> Made
+    requires { length parameters.now < 128 }
+    ensures { MadeIn room.new (function (basic_types parameters.now) (basic_type last)) result }
 {
-    match t {
-        Basic::Any => TypeEntry::Any,
-        Basic::Number => TypeEntry::Number,
-        Basic::String => TypeEntry::String,
-        Basic::Boolean => TypeEntry::Boolean,
-        Basic::Undefined => TypeEntry::Undefined,
+    for (i, parameter) in parameters.iter().enumerate() {
+        room[i] = TypeEntry::from(*parameter);
+    }
+    let count = parameters.len();
+    room[count] = TypeEntry::from(last);
+    Made {
+        entry: TypeEntry::Function { first: 0, count },
+        used: count + 1,
     }
 }
 
 // The binding as a register tells it. The parts of a function type are written into `room`.
-pub fn told(standing: Standing, room: &mut [TypeEntry; 128]) -> Found
-    ensures { Tells (Some (binding_of standing)) result room.new }
+pub fn told(standing: Standing, room: &mut [TypeEntry; 128]) -> Told
+    requires { Fit (binding_of standing) }
+    ensures { Tells (Some (binding_of standing)) (Some result) room.new }
 {
     match standing {
-        Standing::Scheme(scheme) => Found::Scheme(scheme),
-        Standing::Plain(t) => Found::Typed(Made {
-            entry: entry_of(t),
+        Standing::Scheme(scheme) => Told::Scheme(scheme),
+        Standing::Plain(t) => Told::Typed(Made {
+            entry: TypeEntry::from(t),
             used: 0,
         }),
-        Standing::Nullary(result) => {
-            room[0] = entry_of(result);
-            Found::Typed(Made {
-                entry: TypeEntry::Function { first: 0, count: 0 },
-                used: 1,
-            })
-        }
-        Standing::Unary(parameter, result) => {
-            room[0] = entry_of(parameter);
-            room[1] = entry_of(result);
-            Found::Typed(Made {
-                entry: TypeEntry::Function { first: 0, count: 1 },
-                used: 2,
-            })
-        }
-        Standing::Binary(parameter, second, result) => {
-            room[0] = entry_of(parameter);
-            room[1] = entry_of(second);
-            room[2] = entry_of(result);
-            Found::Typed(Made {
-                entry: TypeEntry::Function { first: 0, count: 2 },
-                used: 3,
-            })
-        }
+        Standing::Function(parameters, last) => Told::Typed(told_function(parameters, last, room)),
     }
 }

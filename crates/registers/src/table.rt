@@ -7,7 +7,7 @@ ghost use Rattle.registers.specs.Standings.{stands, table_lines};
 use crate::found::Scheme::{Head, List, Pair, Tail};
 use crate::standing::Basic::{Any, Boolean, Number, String, Undefined};
 use crate::standing::Standing;
-use crate::standing::Standing::{Binary, Nullary, Plain, Scheme, Unary};
+use crate::standing::Standing::{Function, Plain, Scheme};
 
 // Each name with what it is bound to.
 static TABLE: [(&[u8], Standing); 79] = [
@@ -39,53 +39,53 @@ static TABLE: [(&[u8], Standing); 79] = [
     (b"math_SQRT1_2", Plain(Number)),
     (b"math_SQRT2", Plain(Number)),
     (b"undefined", Plain(Undefined)),
-    (b"is_boolean", Unary(Any, Boolean)),
-    (b"is_function", Unary(Any, Boolean)),
-    (b"is_number", Unary(Any, Boolean)),
-    (b"is_string", Unary(Any, Boolean)),
-    (b"is_undefined", Unary(Any, Boolean)),
-    (b"is_pair", Unary(Any, Boolean)),
-    (b"is_null", Unary(Any, Boolean)),
-    (b"is_list", Unary(Any, Boolean)),
-    (b"math_abs", Unary(Number, Number)),
-    (b"math_acos", Unary(Number, Number)),
-    (b"math_acosh", Unary(Number, Number)),
-    (b"math_asin", Unary(Number, Number)),
-    (b"math_asinh", Unary(Number, Number)),
-    (b"math_atan", Unary(Number, Number)),
-    (b"math_atanh", Unary(Number, Number)),
-    (b"math_cbrt", Unary(Number, Number)),
-    (b"math_ceil", Unary(Number, Number)),
-    (b"math_clz32", Unary(Number, Number)),
-    (b"math_cos", Unary(Number, Number)),
-    (b"math_cosh", Unary(Number, Number)),
-    (b"math_exp", Unary(Number, Number)),
-    (b"math_expm1", Unary(Number, Number)),
-    (b"math_floor", Unary(Number, Number)),
-    (b"math_fround", Unary(Number, Number)),
-    (b"math_LN2", Unary(Number, Number)),
-    (b"math_LN10", Unary(Number, Number)),
-    (b"math_log", Unary(Number, Number)),
-    (b"math_log1p", Unary(Number, Number)),
-    (b"math_log2", Unary(Number, Number)),
-    (b"math_log10", Unary(Number, Number)),
-    (b"math_round", Unary(Number, Number)),
-    (b"math_sign", Unary(Number, Number)),
-    (b"math_sin", Unary(Number, Number)),
-    (b"math_sinh", Unary(Number, Number)),
-    (b"math_sqrt", Unary(Number, Number)),
-    (b"math_tan", Unary(Number, Number)),
-    (b"math_tanh", Unary(Number, Number)),
-    (b"math_trunc", Unary(Number, Number)),
-    (b"math_atan2", Binary(Number, Number, Number)),
-    (b"math_imul", Binary(Number, Number, Number)),
-    (b"math_pow", Binary(Number, Number, Number)),
-    (b"math_hypot", Unary(Any, Number)),
-    (b"math_random", Nullary(Number)),
-    (b"get_time", Nullary(Number)),
-    (b"parse_int", Binary(String, Number, Number)),
-    (b"prompt", Unary(String, String)),
-    (b"stringify", Unary(Any, String)),
+    (b"is_boolean", Function(&[Any], Boolean)),
+    (b"is_function", Function(&[Any], Boolean)),
+    (b"is_number", Function(&[Any], Boolean)),
+    (b"is_string", Function(&[Any], Boolean)),
+    (b"is_undefined", Function(&[Any], Boolean)),
+    (b"is_pair", Function(&[Any], Boolean)),
+    (b"is_null", Function(&[Any], Boolean)),
+    (b"is_list", Function(&[Any], Boolean)),
+    (b"math_abs", Function(&[Number], Number)),
+    (b"math_acos", Function(&[Number], Number)),
+    (b"math_acosh", Function(&[Number], Number)),
+    (b"math_asin", Function(&[Number], Number)),
+    (b"math_asinh", Function(&[Number], Number)),
+    (b"math_atan", Function(&[Number], Number)),
+    (b"math_atanh", Function(&[Number], Number)),
+    (b"math_cbrt", Function(&[Number], Number)),
+    (b"math_ceil", Function(&[Number], Number)),
+    (b"math_clz32", Function(&[Number], Number)),
+    (b"math_cos", Function(&[Number], Number)),
+    (b"math_cosh", Function(&[Number], Number)),
+    (b"math_exp", Function(&[Number], Number)),
+    (b"math_expm1", Function(&[Number], Number)),
+    (b"math_floor", Function(&[Number], Number)),
+    (b"math_fround", Function(&[Number], Number)),
+    (b"math_LN2", Function(&[Number], Number)),
+    (b"math_LN10", Function(&[Number], Number)),
+    (b"math_log", Function(&[Number], Number)),
+    (b"math_log1p", Function(&[Number], Number)),
+    (b"math_log2", Function(&[Number], Number)),
+    (b"math_log10", Function(&[Number], Number)),
+    (b"math_round", Function(&[Number], Number)),
+    (b"math_sign", Function(&[Number], Number)),
+    (b"math_sin", Function(&[Number], Number)),
+    (b"math_sinh", Function(&[Number], Number)),
+    (b"math_sqrt", Function(&[Number], Number)),
+    (b"math_tan", Function(&[Number], Number)),
+    (b"math_tanh", Function(&[Number], Number)),
+    (b"math_trunc", Function(&[Number], Number)),
+    (b"math_atan2", Function(&[Number, Number], Number)),
+    (b"math_imul", Function(&[Number, Number], Number)),
+    (b"math_pow", Function(&[Number, Number], Number)),
+    (b"math_hypot", Function(&[Any], Number)),
+    (b"math_random", Function(&[], Number)),
+    (b"get_time", Function(&[], Number)),
+    (b"parse_int", Function(&[String, Number], Number)),
+    (b"prompt", Function(&[String], String)),
+    (b"stringify", Function(&[Any], String)),
     (b"pair", Scheme(Pair)),
     (b"head", Scheme(Head)),
     (b"tail", Scheme(Tail)),
@@ -96,13 +96,10 @@ static TABLE: [(&[u8], Standing); 79] = [
 fn find(table: &[(&[u8], Standing)], name: &[u8]) -> Option<Standing>
     ensures { stands result ≡ look_up (table_lines table.now) name.now }
 {
-    for row in table {
-        let (text, standing) = *row;
-        if text == name {
-            return Some(standing);
-        }
-    }
-    None
+    table
+        .iter()
+        .find(|(text, _)| *text == name)
+        .map(|(_, standing)| *standing)
 }
 
 // What the library binds a name to.

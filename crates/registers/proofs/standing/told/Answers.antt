@@ -1,15 +1,15 @@
-use Rattle.registers.proofs.Basics.{plain_told, nullary_told, unary_told, binary_told}
+use Rattle.std.proofs.Common.{Some, refl, sym, subst}
+use Rattle.registers.specs.declared.found.Told.{Told}
+use Rattle.registers.specs.Meaning.{Fit}
+use Rattle.registers.specs.Standings.{binding_of}
+use Rattle.registers.specs.Telling.{Tells}
+use Rattle.registers.proofs.Basics.{few_parameters, plain_made}
 use Rattle.registers.proofs.standing.told.Goals as goal
 
+pub told_function-requires : goal.told_function-requires
+told_function-requires c = few_parameters c.in-Function.parameters.now c.in-Function.last (subst (λ s. Fit (binding_of s)) c.in-Function.is c.requires)
+
 pub returns-in-Plain : goal.returns-in-Plain
-returns-in-Plain c = plain_told _ _ _ _ c.in-Plain.is c.entry_of.ensures
-
-pub returns-in-Nullary : goal.returns-in-Nullary
-returns-in-Nullary c = nullary_told _ c.told-room _ _ _ c.in-Nullary.is c.entry_of-in-Nullary.ensures
-
-pub returns-in-Unary : goal.returns-in-Unary
-returns-in-Unary c = unary_told _ c.told-room _ _ _ _ _ c.in-Unary.is c.entry_of-in-Unary.ensures c.entry_of-in-Unary-2.ensures
-
-pub returns-in-Binary : goal.returns-in-Binary
-returns-in-Binary c =
-    binary_told _ c.told-room _ _ _ _ _ _ _ c.in-Binary.is c.entry_of-in-Binary.ensures c.entry_of-in-Binary-2.ensures c.entry_of-in-Binary-3.ensures
+returns-in-Plain c =
+    subst (λ s. Tells (Some (binding_of s)) (Some (Told.Typed (record { entry = c.from.result; used = 0 }))) c.args.room.now) (sym c.in-Plain.is)
+    (_, refl, plain_made c.args.room.now c.in-Plain.t c.from.result c.from.ensures)

@@ -1,17 +1,17 @@
-use Rattle.std.proofs.Common.{sym, ◌∙◌}
-use Rattle.std.proofs.lemmas.Slice.Eq.{slice_eq-Decides}
-use Rattle.registers.specs.Standings.{table_line}
-use Rattle.registers.proofs.Rows.{row_found, row_passed, rows_passed}
+use Rattle.std.proofs.Common.{◌≡◌, ap, ◌∙◌, rules, tests, arith}
+use Rattle.std.specs.Str.{bytes_eq}
+use Rattle.std.specs.Option.{option_map}
+use Rattle.std.proofs.lemmas.Grind.{common_steps}
+use Rattle.std.proofs.lemmas.Iterator.{YieldsList-from_slice}
+use Rattle.std.proofs.lemmas.Iterator.Search.{find_from_yields_List}
+use Rattle.registers.specs.Standings.{stands}
+use Rattle.registers.proofs.Rows.{meant, found_first}
 use Rattle.registers.proofs.table.find.Goals as goal
-use Rattle.std.proofs.lemmas.Bool.Decides.{Decides-eqb}
-
-pub returns-then-eq : goal.returns-then-eq
-returns-then-eq c =
-    sym (row_found table_line _ _ _ _ _ c.loop-row-test.true (slice_eq-Decides Decides-eqb _ _ _ c.eq.ensures) c.if-eq.true) ∙ c.loop-row.invariant
-
-pub loop-row-preserved : goal.loop-row-preserved
-loop-row-preserved c =
-    sym (row_passed table_line _ _ _ _ _ c.loop-row-test.true (slice_eq-Decides Decides-eqb _ _ _ c.eq.ensures) c.if-eq.false) ∙ c.loop-row.invariant
 
 pub returns : goal.returns
-returns c = sym (rows_passed table_line _ _ _ c.loop-row-test.false) ∙ c.loop-row.invariant
+returns c =
+    let name = c.args.name.now in
+    let table = c.args.table.now in
+    let found = find_from_yields_List (λ r. bytes_eq r.0.now name) _ _ c.find.result c.find.ensures.ran (YieldsList-from_slice table (cc)) (λ x b q k. search (rules, tests)) in
+    let same : stands c.map.result ≡ meant (option_map (λ x. x.now) c.find.result) = grind (arith, common_steps) in
+    same ∙ ap meant found ∙ found_first table name
