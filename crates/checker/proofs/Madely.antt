@@ -12,7 +12,7 @@ use Rattle.building.specs.Literals.{Numeral, GivesNumber}
 use Rattle.building.proofs.Filled.{filled_none}
 use Rattle.building.proofs.OneUnion.{in_none}
 use Rattle.building.proofs.LiteralsMade.{literal_laws}
-use Rattle.registers.specs.declared.found.Found.{Found}
+use Rattle.registers.specs.declared.found.Told.{Told}
 use Rattle.registers.specs.Meaning.{Binding, typed, scheme, Meaning}
 use Rattle.registers.specs.Telling.{MadeIn, Tells}
 use Rattle.parser.specs.declared.symbols.Leaf.{Leaf}
@@ -71,12 +71,12 @@ as_literal sheet Γ p n text t cs {l} e same rule = subst (λ x. LiteralForm x t
 
 -- what a register told is no type, or a type
 
-pub told_any : (o : Option Binding) (found : Found) (room : List TypeEntry) → Tells o found room → ((m : Made) → found ≡ Found.Typed m → ⊥) → type_of o ≡ any
+pub told_any : (o : Option Binding) (found : Option Told) (room : List TypeEntry) → Tells o found room → ((m : Made) → found ≡ Some (Told.Typed m) → ⊥) → type_of o ≡ any
 told_any None found room h no-type = refl
 told_any (Some (scheme s)) found room h no-type = refl
 told_any (Some (typed t)) found room h no-type = absurd (no-type h.0 h.1)
 
-pub told_typed : (o : Option Binding) (found : Found) (m : Made) (room : List TypeEntry) → Tells o found room → found ≡ Found.Typed m → MadeIn room (type_of o) m
+pub told_typed : (o : Option Binding) (found : Option Told) (m : Made) (room : List TypeEntry) → Tells o found room → found ≡ Some (Told.Typed m) → MadeIn room (type_of o) m
 told_typed None found m room h e = let z : ◌≡◌ {A = ℕ} 0 1 = cc in absurd (omega arith)
 told_typed (Some (scheme s)) found m room h e = let z : ◌≡◌ {A = ℕ} 0 1 = cc in absurd (omega arith)
 told_typed (Some (typed t)) found m room h e = let same : h.0 ≡ m = cc in subst (MadeIn room t) same h.2

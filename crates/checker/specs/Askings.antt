@@ -2,7 +2,7 @@
 use Rattle.std.specs.Prelude.{◌≡◌, ℕ, ◌≤◌, Bool, List, [], ◌∷◌, length, Some, Decides, Option}
 use Rattle.types.specs.declared.entries.TypeEntry.{TypeEntry}
 use Rattle.types.specs.Types.{Ty}
-use Rattle.registers.specs.declared.found.Found.{Found}
+use Rattle.registers.specs.declared.found.Told.{Told}
 use Rattle.registers.specs.Meaning.{Binding}
 use Rattle.registers.specs.Telling.{Tells}
 use Rattle.types.specs.Table.{Is}
@@ -50,9 +50,9 @@ AsksCompare f s a b g =
     s.used ≤ length (entries s) → (t u : Ty) → Is (entries s) s.used a.entry t → Is (entries s) s.used b.entry u → Asks f (compares b.place t u ∷ []) g
 
 -- r says whether what a register told is a binding
-abbrev pub SaysBound : Found → Bool → Type 0
+abbrev pub SaysBound : Option Told → Bool → Type 0
 SaysBound found r = (o : Option Binding) (room : List TypeEntry) → Tells o found room → Decides r ((b : Binding) × (o ≡ Some b))
 
 -- whether the name at a place is bound, by what a register told
-abbrev pub AsksBound : First Finding → ℕ → Found → First Finding → Type 0
+abbrev pub AsksBound : First Finding → ℕ → Option Told → First Finding → Type 0
 AsksBound f place found g = (o : Option Binding) (room : List TypeEntry) → Tells o found room → Asks f (bound place o ∷ []) g

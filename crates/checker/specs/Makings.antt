@@ -7,7 +7,7 @@ use Rattle.types.specs.Table.{Is}
 use Rattle.building.specs.declared.unions.Made.{Made}
 use Rattle.building.specs.Forms.{InForm}
 use Rattle.building.specs.Literals.{Numeral, SpelledString}
-use Rattle.registers.specs.declared.found.Found.{Found}
+use Rattle.registers.specs.declared.found.Told.{Told}
 use Rattle.registers.specs.Meaning.{Binding, Meaning}
 use Rattle.registers.specs.Telling.{Tells}
 use Rattle.parser.specs.declared.symbols.Leaf.{Leaf}
@@ -32,7 +32,7 @@ MakesLiteral s leaf text r m =
     (ts : List Ty) (sheet : List ℕ) (Γ : Meaning) (p n : ℕ) (t : Ty) (cs : List Condition) → Tabled s ts → text ≡ part sheet p n → (leaf ≢ Name)
     → LeafRule sheet Γ p n leaf t cs → Ready s r t m
 
-abbrev pub MakesFound : Store → Found → List TypeEntry → Store → Option Made → Type 0
+abbrev pub MakesFound : Store → Option Told → List TypeEntry → Store → Option Made → Type 0
 MakesFound s found room r m = (ts : List Ty) (o : Option Binding) → Tabled s ts → length room ≡ 128 → Tells o found room → Ready s r (type_of o) m
 
 abbrev pub MakesNumber : ℕ → List ℕ → Option Made → Type 0

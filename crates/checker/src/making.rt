@@ -7,7 +7,7 @@ use crate::store::{Store, brought, spelled, united};
 use building::literals::number_of;
 use building::unions::Made;
 use parser::symbols::{Leaf, Prefix};
-use registers::found::Found;
+use registers::found::Told;
 use types::entries::TypeEntry;
 
 // The type of an operator before its operand.
@@ -103,20 +103,17 @@ pub fn literal_made(store: &mut Store, leaf: Leaf, text: &[u8]) -> Option<Made>
 }
 
 // The type of a name, by what a register told of it.
-pub fn found_made(store: &mut Store, found: Found, room: &[TypeEntry]) -> Option<Made>
+pub fn found_made(store: &mut Store, found: Option<Told>, room: &[TypeEntry]) -> Option<Made>
     ensures lent { store.new.entries.ghost_name ≡ store.old.entries.ghost_name }
     ensures makes { MakesFound store.old found room.now store.new result }
 {
-    let used = store.used;
+    let plain = Made {
+        entry: TypeEntry::Any,
+        used: store.used,
+    };
     match found {
-        Found::Nothing => Some(Made {
-            entry: TypeEntry::Any,
-            used,
-        }),
-        Found::Scheme(_) => Some(Made {
-            entry: TypeEntry::Any,
-            used,
-        }),
-        Found::Typed(made) => brought(store, room, made),
+        None => Some(plain),
+        Some(Told::Scheme(_)) => Some(plain),
+        Some(Told::Typed(made)) => brought(store, room, made),
     }
 }

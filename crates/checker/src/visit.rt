@@ -18,7 +18,7 @@ use crate::store::Store;
 use crate::walk::{Walk, ended, wait_four, wait_three, wait_two};
 use parser::symbols::Leaf;
 use parser::tree::{TreeEntry, WalkFrame};
-use registers::found::Found;
+use registers::found::Told;
 use registers::register::Register;
 use types::entries::TypeEntry;
 
@@ -48,18 +48,14 @@ fn part_of(sheet: &[u8], place: usize, len: usize) -> &[u8]
 }
 
 // Whether a register told a binding.
-fn is_bound(found: Found) -> bool
+fn is_bound(found: Option<Told>) -> bool
     ensures { SaysBound found result }
 {
-    match found {
-        Found::Nothing => false,
-        Found::Scheme(_) => true,
-        Found::Typed(_) => true,
-    }
+    found.is_some()
 }
 
 // Asks that a name is bound, by what a register told of it.
-fn ask_bound(findings: &mut First<Finding>, place: usize, found: Found)
+fn ask_bound(findings: &mut First<Finding>, place: usize, found: Option<Told>)
     ensures lent { findings.new.slots.ghost_name ≡ findings.old.slots.ghost_name }
     ensures asked { AsksBound findings.old place found findings.new }
 {
