@@ -1,47 +1,27 @@
 // The answers to the lines of the input.
-use crate::line::request_of;
+use crate::line::{Request, request_of};
 use crate::spelling::spell;
-use crate::tables::Tables;
-use anyhow::anyhow;
+use anyhow::bail;
 use checker::asked::type_of;
 use checker::calls::Answer;
-use checker::finding::{Finding, Kind};
+use checker::finding::{BLANK, Finding};
 use checker::stage::Checked;
 use lexer::refusal::Refusal;
 use std::alloc::{AllocError, Global};
 use std::fmt::Write;
+use tables::Tables;
+
+// The longest findings list that a call can ask for: its length has five digits at most.
+const FINDINGS: usize = 99_999;
 
 // Answers calls, and holds the text of the answers.
 #[derive(Drop)]
 pub struct Desk {
     heap: Global,
     tables: Tables,
+    findings: Vec<Finding>,
     pending: Vec<usize>,
     out: String,
-}
-
-fn write_refusal(out: &mut String, stage: &str, refusal: Refusal) -> anyhow::Result<()> {
-    let number = refusal.reason.number();
-    let place = refusal.place;
-    writeln!(out, "{stage}-refused {number} {place}")?;
-    Ok(())
-}
-
-fn kind_number(kind: Kind) -> u8 {
-    match kind {
-        Kind::Blank => 0,
-        Kind::Clash => 1,
-        Kind::UnknownName => 2,
-    }
-}
-
-fn write_findings(out: &mut String, findings: &[Finding], count: usize) -> anyhow::Result<()> {
-    for finding in findings.iter().take(count) {
-        let kind = kind_number(finding.kind);
-        let place = finding.place;
-        writeln!(out, "finding {kind} {place}")?;
-    }
-    Ok(())
 }
 
 impl Desk {
@@ -49,6 +29,7 @@ impl Desk {
         Ok(Desk {
             heap,
             tables: Tables::new(heap)?,
+            findings: vec![in heap; BLANK; FINDINGS]?,
             pending: Vec::new(heap),
             out: String::new(heap),
         })
@@ -56,14 +37,27 @@ impl Desk {
 
     // All that was answered.
     pub fn text(&self) -> &str {
-        self.out.as_str()
+        &self.out
+    }
+
+    fn write_refusal(&mut self, stage: &str, refusal: Refusal) -> anyhow::Result<()> {
+        let Refusal { reason, place } = refusal;
+        writeln!(self.out, "{stage}-refused {} {place}", reason.number())?;
+        Ok(())
+    }
+
+    fn write_findings(&mut self, count: usize) -> anyhow::Result<()> {
+        for Finding { kind, place } in self.findings.iter().take(count) {
+            writeln!(self.out, "finding {} {place}", kind.number())?;
+        }
+        Ok(())
     }
 
     fn write_types(&mut self, checked: &Checked) -> anyhow::Result<()> {
         let types = self.tables.types();
         for number in 0..checked.expressions() {
             let Ok(index) = type_of(checked, types, number) else {
-                return Err(anyhow!("an expression's type was refused"));
+                bail!("an expression's type was refused");
             };
             write!(self.out, "type {number}")?;
             spell(&mut self.out, &mut self.pending, types, index)?;
@@ -72,15 +66,17 @@ impl Desk {
         Ok(())
     }
 
-    fn check(&mut self, sheet: &[u8], room: usize) -> anyhow::Result<()> {
-        let outcome = self.tables.check(sheet, room);
+    fn check(&mut self, request: Request) -> anyhow::Result<()> {
+        let Request { sheet, room } = request;
+        let room = room.min(self.findings.len());
+        let outcome = self.tables.check(&sheet, &mut self.findings[..room]);
         match outcome.answer {
-            Answer::Blank => return Err(anyhow!("no call was made")),
-            Answer::ReadRefused(refusal) => write_refusal(&mut self.out, "read", refusal)?,
-            Answer::CheckRefused(refusal) => write_refusal(&mut self.out, "check", refusal)?,
+            Answer::Blank => bail!("no call was made"),
+            Answer::ReadRefused(refusal) => self.write_refusal("read", refusal)?,
+            Answer::CheckRefused(refusal) => self.write_refusal("check", refusal)?,
             Answer::Checked { count, expressions } => {
                 writeln!(self.out, "checked {count} {expressions}")?;
-                write_findings(&mut self.out, self.tables.findings(), count.min(room))?;
+                self.write_findings(count.min(room))?;
             }
         }
         match outcome.checked {
@@ -92,11 +88,9 @@ impl Desk {
     // Answers one line of the input, given its number.
     pub fn answer(&mut self, line: &[u8], number: usize) -> anyhow::Result<()> {
         match request_of(self.heap, line)? {
-            Some(request) => self.check(request.sheet.as_slice(), request.room),
-            None => {
-                writeln!(self.out, "bad line {number}")?;
-                Ok(())
-            }
+            Some(request) => self.check(request)?,
+            None => writeln!(self.out, "bad line {number}")?,
         }
+        Ok(())
     }
 }

@@ -49,31 +49,21 @@ fn spell_head(out: &mut String, types: &[TypeEntry], entry: TypeEntry) -> anyhow
         TypeEntry::Pair { .. } => write!(out, " pair")?,
         TypeEntry::List { .. } => write!(out, " list")?,
         TypeEntry::Union { count, .. } => write!(out, " union {count}")?,
-        _ => {
-            let name = word(entry);
-            write!(out, " {name}")?
-        }
+        _ => write!(out, " {}", word(entry))?,
     }
     Ok(())
 }
 
 // Puts the indexes from `first` on, `count` of them, on the stack, the first on top.
 fn push_run(pending: &mut Vec<usize>, first: usize, count: usize) -> anyhow::Result<()> {
-    for index in (first..first.saturating_add(count)).rev() {
-        pending.push(index)?;
-    }
-    Ok(())
+    Ok(pending.extend((first..first.saturating_add(count)).rev())?)
 }
 
 // Puts the parts of a type on the stack, the first on top.
 fn push_parts(pending: &mut Vec<usize>, entry: TypeEntry) -> anyhow::Result<()> {
     match entry {
         TypeEntry::Function { first, count } => push_run(pending, first, count.saturating_add(1)),
-        TypeEntry::Pair { head, tail } => {
-            pending.push(tail)?;
-            pending.push(head)?;
-            Ok(())
-        }
+        TypeEntry::Pair { head, tail } => Ok(pending.extend([tail, head])?),
         TypeEntry::List { element } => Ok(pending.push(element)?),
         TypeEntry::Union { first, count } => push_run(pending, first, count),
         _ => Ok(()),

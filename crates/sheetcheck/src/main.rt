@@ -1,13 +1,16 @@
 // Checks the sheets that are named as arguments, `-` for standard input, and prints what is found.
 #![tactic(auto)]
 
-mod tables;
 mod telling;
 
+use checker::finding::BLANK;
 use std::io::Read;
 use std::{env, fs};
 use tables::Tables;
-use telling::{Sheet, tell};
+use telling::Sheet;
+
+// No sheet has more findings: each of its expressions has a token of its own, and two findings at most.
+const FINDINGS: usize = 8192;
 
 fn bytes_of(rt: &HostRuntime, name: &str) -> anyhow::Result<Vec<u8>> {
     if name != "-" {
@@ -18,21 +21,18 @@ fn bytes_of(rt: &HostRuntime, name: &str) -> anyhow::Result<Vec<u8>> {
     Ok(bytes)
 }
 
-fn check_all(rt: &HostRuntime) -> anyhow::Result<()> {
+fn main(rt: HostRuntime) -> anyhow::Result<()> {
     let mut tables = Tables::new(rt.alloc())?;
-    for argument in env::args(rt)?.skip(1) {
+    let mut findings = vec![in rt.alloc(); BLANK; FINDINGS]?;
+    for argument in env::args(&rt)?.skip(1) {
         let name = argument.as_str();
-        let bytes = bytes_of(rt, name)?;
+        let bytes = bytes_of(&rt, name)?;
         let sheet = Sheet {
             name,
-            bytes: bytes.as_slice(),
+            bytes: &bytes,
         };
-        let answer = tables.check(sheet.bytes);
-        tell(rt, sheet, answer, tables.findings())?;
+        let outcome = tables.check(sheet.bytes, &mut findings);
+        sheet.tell(&rt, outcome.answer, &findings)?;
     }
     Ok(())
-}
-
-fn main(rt: HostRuntime) -> anyhow::Result<()> {
-    check_all(&rt)
 }

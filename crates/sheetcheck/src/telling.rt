@@ -1,9 +1,8 @@
 // What is printed of a sheet.
-use anyhow::anyhow;
+use anyhow::bail;
 use checker::calls::Answer;
 use checker::finding::{Finding, Kind};
 use lexer::positions::position_of;
-use lexer::reasons::Reason;
 use lexer::refusal::Refusal;
 use std::str::from_utf8;
 
@@ -14,103 +13,73 @@ pub struct Sheet<'a> {
     pub bytes: &'a [u8],
 }
 
-// What a refusal says to the person who reads it.
-fn words(reason: Reason) -> &'static str {
-    match reason {
-        Reason::ShortTable => "a table is too short",
-        Reason::LongSheet => "the sheet has over 16,384 bytes",
-        Reason::NoToken => "no token begins here, or a string or comment is not closed",
-        Reason::LargeToken =>
-            "a name over 32 bytes, a string over 255 code units, or a number out of range",
-        Reason::LineFeed => "a line feed after `return`, or before `=>`",
-        Reason::ManyTokens => "the sheet has over 4,096 tokens",
-        Reason::NoProgram => "not a program",
-        Reason::HeavySheet => "the sheet's types are too large",
-        Reason::Damaged => "a table was altered",
-        Reason::NoExpression => "no such expression",
-    }
-}
-
 fn is_word_byte(b: u8) -> bool {
-    match b {
-        b'a'..=b'z' | b'A'..=b'Z' | b'0'..=b'9' | b'_' | b'$' => true,
-        _ => false,
-    }
+    b.is_ascii_alphanumeric() || matches!(b, b'_' | b'$')
 }
 
 // The word that a text begins with.
 fn word_of(text: &[u8]) -> &[u8] {
-    for i in 0..text.len() {
-        if !is_word_byte(text[i]) {
-            return &text[0..i];
+    let end = text.iter().position(|b| !is_word_byte(*b));
+    &text[..end.unwrap_or(text.len())]
+}
+
+impl<'a> Sheet<'a> {
+    // The name at a place.
+    fn name_at(&self, place: usize) -> &'a str {
+        let Some(text) = self.bytes.get(place..) else {
+            return "";
+        };
+        from_utf8(word_of(text)).unwrap_or("")
+    }
+
+    fn tell_place(&self, rt: &HostRuntime, place: usize) -> anyhow::Result<()> {
+        print!(rt; "{}:{}: ", self.name, position_of(self.bytes, place))?;
+        Ok(())
+    }
+
+    fn tell_refusal(&self, rt: &HostRuntime, refusal: Refusal) -> anyhow::Result<()> {
+        let Refusal { reason, place } = refusal;
+        self.tell_place(rt, place)?;
+        println!(rt; "refused ({}): {reason}", reason.number())?;
+        Ok(())
+    }
+
+    fn tell_finding(&self, rt: &HostRuntime, finding: Finding) -> anyhow::Result<()> {
+        self.tell_place(rt, finding.place)?;
+        match finding.kind {
+            Kind::Blank => println!(rt; "no finding")?,
+            Kind::Clash => println!(rt; "clash: no value fits here")?,
+            Kind::UnknownName => println!(rt; "unknown name: {}", self.name_at(finding.place))?,
         }
+        Ok(())
     }
-    text
-}
 
-// The name at a place of a sheet.
-fn name_at(sheet: &[u8], place: usize) -> &str {
-    match sheet.get(place..) {
-        Some(text) => from_utf8(word_of(text)).unwrap_or(""),
-        None => "",
-    }
-}
-
-fn tell_place(rt: &HostRuntime, sheet: Sheet<'_>, place: usize) -> anyhow::Result<()> {
-    let name = sheet.name;
-    let position = position_of(sheet.bytes, place);
-    let line = position.line;
-    let column = position.column;
-    print!(rt; "{name}:{line}:{column}: ")?;
-    Ok(())
-}
-
-fn tell_refusal(rt: &HostRuntime, sheet: Sheet<'_>, refusal: Refusal) -> anyhow::Result<()> {
-    tell_place(rt, sheet, refusal.place)?;
-    let number = refusal.reason.number();
-    let why = words(refusal.reason);
-    println!(rt; "refused ({number}): {why}")?;
-    Ok(())
-}
-
-fn tell_finding(rt: &HostRuntime, sheet: Sheet<'_>, finding: Finding) -> anyhow::Result<()> {
-    tell_place(rt, sheet, finding.place)?;
-    match finding.kind {
-        Kind::Blank => println!(rt; "no finding")?,
-        Kind::Clash => println!(rt; "clash: no value fits here")?,
-        Kind::UnknownName => {
-            let name = name_at(sheet.bytes, finding.place);
-            println!(rt; "unknown name: {name}")?
+    fn tell_findings(
+        &self,
+        rt: &HostRuntime,
+        findings: &[Finding],
+        count: usize,
+    ) -> anyhow::Result<()> {
+        for finding in findings.iter().take(count) {
+            self.tell_finding(rt, *finding)?;
         }
+        println!(rt; "{}: {count} findings", self.name)?;
+        Ok(())
     }
-    Ok(())
-}
 
-fn tell_findings(
-    rt: &HostRuntime,
-    sheet: Sheet<'_>,
-    findings: &[Finding],
-    count: usize,
-) -> anyhow::Result<()> {
-    for finding in findings.iter().take(count) {
-        tell_finding(rt, sheet, *finding)?;
-    }
-    let name = sheet.name;
-    println!(rt; "{name}: {count} findings")?;
-    Ok(())
-}
-
-// Prints the answer to a check of a sheet, with the findings that it left.
-pub fn tell(
-    rt: &HostRuntime,
-    sheet: Sheet<'_>,
-    answer: Answer,
-    findings: &[Finding],
-) -> anyhow::Result<()> {
-    match answer {
-        Answer::Blank => Err(anyhow!("no call was made")),
-        Answer::ReadRefused(refusal) => tell_refusal(rt, sheet, refusal),
-        Answer::CheckRefused(refusal) => tell_refusal(rt, sheet, refusal),
-        Answer::Checked { count, .. } => tell_findings(rt, sheet, findings, count),
+    // Prints the answer to a check of the sheet, with the findings that it left.
+    pub fn tell(
+        &self,
+        rt: &HostRuntime,
+        answer: Answer,
+        findings: &[Finding],
+    ) -> anyhow::Result<()> {
+        match answer {
+            Answer::Blank => bail!("no call was made"),
+            Answer::ReadRefused(refusal) | Answer::CheckRefused(refusal) => self.tell_refusal(
+                rt, refusal,
+            ),
+            Answer::Checked { count, .. } => self.tell_findings(rt, findings, count),
+        }
     }
 }

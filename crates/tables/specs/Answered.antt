@@ -1,0 +1,17 @@
+-- What comes of a check of a sheet, with the library as the first register. Assumes nothing.
+use Rattle.std.specs.Prelude.{ℕ, List}
+use Rattle.types.specs.declared.entries.TypeEntry.{TypeEntry}
+use Rattle.registers.specs.Library.{library}
+use Rattle.parser.specs.Reading.{Sizes}
+use Rattle.checker.specs.declared.finding.Finding.{Finding}
+use Rattle.checker.specs.Runs.{AnswersTo, Left}
+use Rattle.tables.specs.declared.Outcome.{Outcome}
+
+-- the sizes that a check asks for
+abbrev pub full : Sizes
+full = record { of_tree = 4096; of_operators = 4096; of_frames = 4096; of_types = 8192 }
+
+-- the answer is the lawful one, and the findings list and the types are those that a checked sheet leaves
+pub record Answered (sheet : List ℕ) (o : Outcome) (listed : List Finding) (es : List TypeEntry) : Type 0 where
+  pub lawful : AnswersTo full library sheet o.answer
+  pub left : Left full library sheet listed es o.checked

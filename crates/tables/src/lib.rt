@@ -1,0 +1,79 @@
+// The tables that a check is lent, of the sizes that it asks for: made once, and used for sheet after sheet.
+#![tactic(auto)]
+
+ghost use Rattle.std.specs.Prelude.{◌≡◌, vec_len};
+
+use checker::calls::{Answer, Call};
+use checker::finding::Finding;
+use checker::run::run;
+use checker::stage::Checked;
+use parser::tree::{OperatorEntry, TreeEntry, WalkFrame};
+use registers::empty::Empty;
+use registers::library::Library;
+use std::alloc::{AllocError, Global};
+use types::entries::TypeEntry;
+
+// The sizes that a check asks for.
+const ENTRIES: usize = 4096;
+
+const TYPES: usize = 8192;
+
+// What is answered of a sheet. One that was checked can be asked for its types.
+#[derive(Drop)]
+pub struct Outcome {
+    pub answer: Answer,
+    pub checked: Option<Checked>,
+}
+
+#[derive(Drop)]
+pub struct Tables {
+    tree: Vec<TreeEntry>,
+    operators: Vec<OperatorEntry>,
+    frames: Vec<WalkFrame>,
+    types: Vec<TypeEntry>,
+    ghost full_tree: { vec_len tree ≡ 4096 },
+    ghost full_operators: { vec_len operators ≡ 4096 },
+    ghost full_frames: { vec_len frames ≡ 4096 },
+    ghost full_types: { vec_len types ≡ 8192 },
+}
+
+impl Tables {
+    ghost use Rattle.tables.specs.Answered.{Answered};
+
+    // Tables in which nothing is written yet.
+    pub fn new(heap: Global) -> Result<Self, AllocError> {
+        Ok(Tables {
+            tree: vec![in heap; TreeEntry::Blank; ENTRIES]?,
+            operators: vec![in heap; OperatorEntry::Blank; ENTRIES]?,
+            frames: vec![in heap; WalkFrame::Blank; ENTRIES]?,
+            types: vec![in heap; TypeEntry::Unused; TYPES]?,
+        })
+    }
+
+    // Checks a sheet by the library, with a findings list of any length. The types are those of this sheet after.
+    pub fn check(&mut self, sheet: &[u8], findings: &mut [Finding]) -> Outcome
+        ensures { Answered sheet.now result findings.new self.new.types.items }
+    {
+        let mut said = [Answer::Blank];
+        let checked = run(
+            &Library,
+            &Empty,
+            &[Call::Check { sheet }],
+            &mut said,
+            &mut self.tree,
+            &mut self.operators,
+            &mut self.frames,
+            &mut self.types,
+            findings,
+        );
+        let [answer] = said;
+        Outcome { answer, checked }
+    }
+
+    // The types of the sheet that was checked last.
+    pub fn types(&self) -> &[TypeEntry]
+        ensures { result.now ≡ self.now.types.items }
+    {
+        &self.types
+    }
+}
