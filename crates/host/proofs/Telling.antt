@@ -1,5 +1,6 @@
 -- What is told of a sheet, from what reading and checking answer. Assumes nothing.
-use Rattle.std.proofs.Common.{◌≡◌, ℕ, ◌-◌, ◌/◌, ◌<◌, ◌≤◌, min, List, ◌++◌, length, take, Ok, sym, ap, ◌∙◌, subst, arith}
+use Rattle.std.proofs.Common.{◌≡◌, ℕ, ◌-◌, ◌/◌, ◌<◌, ◌≤◌, min, List, ◌++◌, length, take, Ok, Err, Result, sym, ap, ◌∙◌, subst, arith}
+use Rattle.std.specs.Result.{MatchResult}
 use Rattle.std.proofs.lemmas.List.{ext_get_or, get_or-take, length-take-le}
 use Rattle.lexer.specs.Faults.{FirstFault}
 use Rattle.lexer.specs.Refusals.{number_of}
@@ -16,22 +17,16 @@ use Rattle.checker.specs.declared.stage.Checked.{Checked}
 use Rattle.checker.specs.Conditions.{Condition}
 use Rattle.checker.specs.Findings.{Findings, none, met, unmet, blank, FirstOf}
 use Rattle.checker.specs.Checks as checks
-use Rattle.checker.specs.Checks.{CheckedAs, Refuses}
+use Rattle.checker.specs.Checks.{CheckedAs, Refuses, Checks}
 use Rattle.checker.proofs.Logging.{short}
 use Rattle.checker.proofs.Notes.{few_notes_of_all}
 use Rattle.host.specs.Layout.{word, rows, replaced, fitting}
 use Rattle.checker.specs.Runs.{Readable}
 use Rattle.host.specs.Answers.{tables, Refused, too_heavy, ReadAnswers, is_program, not_read, CheckAnswers, is_checked, is_refused}
-use Rattle.host.specs.Outcomes.{CheckedSo}
+use Rattle.host.specs.Outcomes.{CheckedSo, Outcome}
 
--- tables of the same sizes
-pub same_sizes : {a b c d a' b' c' d' : ℕ} → a ≡ a' → b ≡ b' → c ≡ c' → d ≡ d'
-    → ◌≡◌ {A = Sizes} (record { of_tree = a; of_operators = b; of_frames = c; of_types = d }) (record { of_tree = a'; of_operators = b'; of_frames = c'; of_types = d' })
-same_sizes {a} {b} {c} {d} {a'} {b'} {c'} e f g h =
-    ap (λ x. record { of_tree = x; of_operators = b; of_frames = c; of_types = d }) e
-    ∙ (ap (λ x. record { of_tree = a'; of_operators = x; of_frames = c; of_types = d }) f
-    ∙ (ap (λ x. record { of_tree = a'; of_operators = b'; of_frames = x; of_types = d }) g
-    ∙ ap (λ x. record { of_tree = a'; of_operators = b'; of_frames = c'; of_types = x }) h))
+pub full : {a b c d : ℕ} → a ≡ 4096 → b ≡ 4096 → c ≡ 4096 → d ≡ 8192 → ◌≡◌ {A = Sizes} (record { of_tree = a; of_operators = b; of_frames = c; of_types = d }) tables
+full e f g h = cc
 
 -- a finding tells of a condition
 few : {cs : List Condition} {fs : List Finding} → Findings cs fs → length fs ≤ length cs
@@ -71,6 +66,12 @@ module _ {s : Sizes} {sheet : List ℕ} {tree : List TreeEntry} {read : Read} (h
         count = d.count;
         list = d.list;
       }
+
+  -- what comes of the check, whose refusal leaves what was read behind
+  pub outcome_of : (s' : Sizes) → s' ≡ s → (r : Result Checked (Refusal × Read)) (told : Result Checked Refusal) (listed : List Finding) (es : List TypeEntry) → Checks s' sheet tree read library r listed es →
+      MatchResult r (λ c. told ≡ Ok c) (λ e. told ≡ Err e.0) → Outcome s sheet told listed
+  outcome_of s' same (Ok c) told listed es k is = subst (λ z. Outcome s sheet z listed) (sym is) (checked_so k.2)
+  outcome_of s' same (Err e) told listed es k is = subst (λ z. Outcome s sheet z listed) (sym is) (refused_heavy s' same k.0)
 
 -- the first n of a list that has the first of another are the first n of that one
 front : (n : ℕ) (xs ys : List Finding) → FirstOf blank xs ys → n ≤ length xs → n ≤ length ys → take n xs ≡ take n ys

@@ -1,20 +1,8 @@
 // How an answer is written into bytes: each number in four bytes, the lowest first.
 ghost use Rattle.std.specs.Prelude.{◌≡◌, ◌+◌, ◌-◌, ◌*◌, ◌/◌, ◌≤◌, min, length, take};
-ghost use Rattle.checker.specs.Findings.{number_of};
 ghost use Rattle.host.specs.Layout.{word, row, rows, replaced};
 
-use checker::finding::{Finding, Kind};
-
-// The number of a kind of finding.
-fn number_of(kind: Kind) -> usize
-    ensures { result ≡ number_of kind }
-{
-    match kind {
-        Kind::Blank => 0,
-        Kind::Clash => 1,
-        Kind::UnknownName => 2,
-    }
-}
+use checker::finding::Finding;
 
 // Writes the four lowest bytes of a number.
 pub fn put(out: &mut [u8], at: usize, value: usize)
@@ -30,19 +18,8 @@ fn put_finding(out: &mut [u8], at: usize, f: Finding)
     requires { at + 8 ≤ length out.old }
     ensures { out.new ≡ replaced out.old at (row f) }
 {
-    put(out, at, number_of(f.kind));
+    put(out, at, usize::from(f.kind.number()));
     put(out, at + 4, f.place);
-}
-
-// Writes the first `count` findings after the first eight bytes.
-fn put_first(out: &mut [u8], findings: &[Finding], count: usize)
-    requires listed { count ≤ length findings.now }
-    requires room { 8 + 8 * count ≤ length out.old }
-    ensures { out.new ≡ replaced out.old 8 (rows (take count findings.now)) }
-{
-    for i in 0..count {
-        put_finding(out, 8 + 8 * i, findings[i]);
-    }
 }
 
 // Writes the first of `count` findings after the first eight bytes, as many as are listed and have room.
@@ -51,5 +28,8 @@ pub fn put_findings(out: &mut [u8], findings: &[Finding], count: usize)
     ensures { out.new ≡ replaced out.old 8 (rows (take (min (min count (length findings.now)) ((length out.old - 8) / 8)) findings.now)) }
 {
     let n = count.min(findings.len()).min((out.len() - 8) / 8);
-    put_first(out, findings, n);
+    // A loop over the parts of `out` would leave a proof with no more than their lengths.
+    for (i, finding) in findings[..n].iter().enumerate() {
+        put_finding(out, 8 + 8 * i, *finding);
+    }
 }

@@ -8,15 +8,15 @@ ghost use Rattle.host.specs.Answers.{ReadAnswers, CheckAnswers};
 
 mod layout;
 mod sheets;
+mod tables;
 
 use crate::layout::{put, put_findings};
 use crate::sheets::read_and_check;
+use crate::tables::Tables;
 use checker::finding::{BLANK, Finding};
 use checker::stage::Checked;
 use lexer::refusal::Refusal;
 use parser::read;
-use parser::tree::{OperatorEntry, TreeEntry, WalkFrame};
-use types::entries::TypeEntry;
 
 // The answer where `out` has no room for one.
 const NO_ROOM: u32 = 1;
@@ -51,11 +51,14 @@ pub fn sheet_read(sheet: &[u8], out: &mut [u8]) -> u32
     if out.len() < 8 {
         return NO_ROOM;
     }
-    let mut tree = [TreeEntry::Blank; 4096];
-    let mut operators = [OperatorEntry::Blank; 4096];
-    let mut frames = [WalkFrame::Blank; 4096];
-    let mut types = [TypeEntry::Unused; 8192];
-    match read(sheet, &mut tree, &mut operators, &mut frames, &mut types) {
+    let mut lent = Tables::new();
+    match read(
+        sheet,
+        &mut lent.tree,
+        &mut lent.operators,
+        &mut lent.frames,
+        &mut lent.types,
+    ) {
         Ok(_) => 0,
         Err(e) => refused(out, e),
     }
@@ -71,19 +74,9 @@ pub fn sheet_check(sheet: &[u8], out: &mut [u8]) -> u32
     if out.len() < 8 {
         return NO_ROOM;
     }
-    let mut tree = [TreeEntry::Blank; 4096];
-    let mut operators = [OperatorEntry::Blank; 4096];
-    let mut frames = [WalkFrame::Blank; 4096];
-    let mut types = [TypeEntry::Unused; 8192];
+    let mut lent = Tables::new();
     let mut findings = [BLANK; 4096];
-    match read_and_check(
-        sheet,
-        &mut tree,
-        &mut operators,
-        &mut frames,
-        &mut types,
-        &mut findings,
-    ) {
+    match read_and_check(sheet, &mut lent, &mut findings) {
         Ok(c) => checked(out, &c, &findings),
         Err(e) => refused(out, e),
     }

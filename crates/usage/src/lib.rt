@@ -18,18 +18,10 @@ pub fn first_type(
     types: &mut [TypeEntry],
     findings: &mut [Finding],
 ) -> Option<usize> {
-    let reading = match read(sheet, tree, operators, frames, types) {
-        Ok(r) => r,
-        Err(_) => return None,
-    };
-    let checked = match check(
+    let reading = read(sheet, tree, operators, frames, types).ok()?;
+    let checked = check(
         reading, sheet, tree, &Library, &Empty, operators, frames, types, findings,
-    ) {
-        Ok(c) => c,
-        Err(_) => return None,
-    };
-    match type_of(&checked, types, 0) {
-        Ok(i) => Some(i),
-        Err(_) => None,
-    }
+    )
+    .ok()?;
+    type_of(&checked, types, 0).ok()
 }

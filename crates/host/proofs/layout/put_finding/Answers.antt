@@ -9,5 +9,5 @@ returns c =
     let out = c.args.out.now in
     let at = c.args.at in
     c.put-2.ensures
-    ∙ ap (λ o. replaced o (at + 4) (word c.args.f.place)) (c.put.ensures ∙ ap (λ k. replaced out at (word k)) c.number_of.ensures)
+    ∙ ap (λ o. replaced o (at + 4) (word c.args.f.place)) (c.put.ensures ∙ ap (λ k. replaced out at (word k)) (c.from.ensures ∙ c.number.ensures))
     ∙ joined out at (word (number_of c.args.f.kind)) (word c.args.f.place) (at + 4) refl (omega arith)

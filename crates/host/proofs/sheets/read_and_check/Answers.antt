@@ -1,13 +1,23 @@
+use Rattle.std.proofs.Common.{◌≡◌, length, Ok, Err, subst, arith, rules}
+use Rattle.std.specs.Result.{MatchResult}
+use Rattle.std.proofs.lemmas.Result.{MatchResult-weaker, err_from_is_err_and}
+use Rattle.lexer.specs.Faults.{FirstFault}
+use Rattle.parser.specs.Reading.{Sizes, Fault}
 use Rattle.host.specs.Answers.{unread}
-use Rattle.host.proofs.Telling.{same_sizes, refused_heavy, checked_so}
+use Rattle.host.specs.Outcomes.{Outcome}
+use Rattle.host.proofs.Telling.{full, outcome_of}
 use Rattle.host.proofs.sheets.read_and_check.Goals as goal
 
-pub returns-in-Ok-check : goal.returns-in-Ok-check
-returns-in-Ok-check c = checked_so c.in-Ok.ensures c.in-Ok-check.ensures.2
+pub returns-in_err-reading : goal.returns-in_err-reading
+returns-in_err-reading c =
+    let p = err_from_is_err_and c.from_residual.result c.from_residual.ensures.1 in
+    rw (p.1, p.2) (unread (subst (λ s. FirstFault (Fault s c.args.sheet.now) c.in_err-reading.field-0.0) (full (omega arith) (omega arith) (omega arith) (omega arith)) c.in_err-reading.ensures))
 
-pub returns-in-Err-check : goal.returns-in-Err-check
-returns-in-Err-check c =
-    refused_heavy c.in-Ok.ensures _ (same_sizes c.read.auto.tree c.read.auto.operators c.read.auto.frames c.read.auto.types) c.in-Err-check.ensures.0
-
-pub returns-in-Err : goal.returns-in-Err
-returns-in-Err c = unread c.in-Err.ensures
+pub returns : goal.returns
+returns c =
+    let told : MatchResult c.check.result (λ x. c.map_err.result ≡ Ok x) (λ e. c.map_err.result ≡ Err e.0) = search (rules, MatchResult-weaker) in
+    let lent = c.args.lent.now in
+    let same : ◌≡◌ {A = Sizes} (record { of_tree = length c.read.new.tree; of_operators = length c.read.new.operators; of_frames = length c.read.new.frames; of_types = length c.read.new.types })
+    (record { of_tree = length lent.tree; of_operators = length lent.operators; of_frames = length lent.frames; of_types = length lent.types }) = cc in
+    subst (λ s. Outcome s c.args.sheet.now c.map_err.result c.check.new.findings) (full (omega arith) (omega arith) (omega arith) (omega arith))
+    (outcome_of c.in_ok-reading.ensures _ same c.check.result c.map_err.result _ _ c.check.ensures told)
