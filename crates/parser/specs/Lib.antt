@@ -5,4 +5,5 @@ pub mod Table
 pub mod Reading
 pub mod Machine
 pub mod Holds
+pub mod Building
 pub mod Parsing

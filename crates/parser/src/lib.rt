@@ -4,12 +4,10 @@
 ghost use Rattle.std.specs.Prelude.{length};
 ghost use Rattle.parser.specs.Reading.{Reads};
 
-mod operand;
+mod builder;
 mod parse;
-mod progress;
 pub mod reading;
 pub mod sizes;
-mod steps;
 pub mod symbols;
 mod tokens;
 pub mod tree;
