@@ -1,7 +1,8 @@
 -- What the builder's methods make of its tables, in the terms of Holds. No public contract cites it. Assumes nothing.
-use Rattle.std.specs.Prelude.{◌≡◌, ℕ, ◌+◌, ◌<◌, ◌≤◌, List, [], length, None}
+use Rattle.std.specs.Prelude.{◌≡◌, ℕ, ◌+◌, ◌<◌, ◌≤◌, List, [], length, None, slice_set}
 use Rattle.stack.specs.Items.{held, room}
 use Rattle.parser.specs.declared.symbols.Token.{Token}
+use Rattle.parser.specs.declared.tree.TreeEntry.{TreeEntry}
 use Rattle.parser.specs.declared.builder.Builder.{Builder}
 use Rattle.parser.specs.declared.builder.Position.{Position}
 use Rattle.parser.specs.Syntax.{Expr}
@@ -19,6 +20,15 @@ pub record HasRoom (b : Builder) : Type 0 where
   pub in_tree : b.used + length (held b.parts) < length b.tree.now
   pub in_parts : b.used + length (held b.parts) < room b.parts
 
+-- the entry is written above those in use, at an index
+pub record Adds (entry : TreeEntry) (old new : Builder) (at : ℕ) : Type 0 where
+  pub lent : new.tree.ghost_name ≡ old.tree.ghost_name
+  pub tree : new.tree.now ≡ slice_set old.tree.now old.used entry
+  pub parts : new.parts ≡ old.parts
+  pub used : new.used ≡ old.used + 1
+  pub last : new.last ≡ old.last
+  pub index : at ≡ old.used
+
 -- the tables are the ones that they were, with at most n entries more in use
 pub record Grown (n : ℕ) (old new : Builder) : Type 0 where
   pub lent : new.tree.ghost_name ≡ old.tree.ghost_name
@@ -33,12 +43,12 @@ abbrev pub progress : Builder → Position → Progress
 progress b q = record { used = b.used; last = b.last; position = q }
 
 -- the statements ss and the open parts ps are held, and an operand is to come
-abbrev pub ToCome : ℕ → Builder → List Expr → List Part → Type 0
-ToCome sheet b ss ps = Before sheet b.tree.now (held b.parts) b.used b.last ss ps
+abbrev pub WantsOperand : ℕ → Builder → List Expr → List Part → Type 0
+WantsOperand sheet b ss ps = Before sheet b.tree.now (held b.parts) b.used b.last ss ps
 
 -- the same, and the operand e has come, which stands at an index and binds as tightly as k
-abbrev pub Come : ℕ → Builder → ℕ → ℕ → List Expr → List Part → Expr → Type 0
-Come sheet b at k ss ps e = Ended sheet b.tree.now (held b.parts) (operand b at) b.last k ss ps e
+abbrev pub HasOperand : ℕ → Builder → ℕ → ℕ → List Expr → List Part → Expr → Type 0
+HasOperand sheet b at k ss ps e = Ended sheet b.tree.now (held b.parts) (operand b at) b.last k ss ps e
 
 -- the configuration is held
 abbrev pub Stands : ℕ → Builder → Position → State → List Expr → List Part → Type 0
@@ -61,7 +71,7 @@ pub record CompletesTop (old : Builder) (at least : ℕ) (new : Builder) (at' : 
   pub reduced : Reduced old.tree.now (held old.parts) (operand old at) least new.tree.now (held new.parts) (operand new at')
 
 -- all such parts are
-pub record Completes (old : Builder) (at least : ℕ) (new : Builder) (at' : ℕ) : Type 0 where
+pub record CompletesAll (old : Builder) (at least : ℕ) (new : Builder) (at' : ℕ) : Type 0 where
   pub grown : Grown 0 old new
   pub last : new.last ≡ old.last
   pub lower : Lower least (held new.parts)

@@ -8,7 +8,7 @@ ghost use Rattle.parser.specs.Machine.{Part, State, want, after, wants, Dead};
 ghost use Rattle.stack.specs.Items.{held, room};
 ghost use Rattle.parser.specs.Holds.{Within, Lower, Sofar};
 ghost use Rattle.parser.specs.declared.builder.Position.TheVariants.{Want};
-ghost use Rattle.parser.specs.Building.{IsEmpty, HasRoom, Grown, CompletesTop, Completes, ToCome, Come, Stands, Turns, Lowest, progress};
+ghost use Rattle.parser.specs.Building.{IsEmpty, HasRoom, Adds, Grown, CompletesTop, CompletesAll, WantsOperand, HasOperand, Stands, Turns, Lowest, progress};
 ghost use Rattle.parser.specs.Reading.{tokens};
 ghost use Rattle.parser.specs.Parsing.{Parses};
 ghost use Rattle.parser.specs.declared.symbols.Token.{Token as AnyToken};
@@ -58,6 +58,17 @@ impl<'a> Builder<'a> {
         }
     }
 
+    // Writes an entry above those in use, and gives its index.
+    fn add(&mut self, entry: TreeEntry) -> usize
+        requires { HasRoom self.old }
+        ensures { Adds entry self.old self.new result }
+    {
+        let at = self.used;
+        self.tree[at] = entry;
+        self.used = at + 1;
+        at
+    }
+
     // Completes the part on top, if it ends with its operand and that binds as tightly as `least`. The operand stands at
     // `at`, and the index of the completed part is given.
     fn reduce_top(&mut self, at: usize, least: usize) -> Option<usize>
@@ -70,16 +81,13 @@ impl<'a> Builder<'a> {
         }
         let entry = top.completed(at)?;
         let _ = self.parts.pop();
-        let i = self.used;
-        self.tree[i] = entry;
-        self.used = i + 1;
-        Some(i)
+        Some(self.add(entry))
     }
 
     // Completes the parts that end with their operand and await one that binds as tightly as `least`, from the top down.
     fn reduce(&mut self, mut at: usize, least: usize) -> usize
         requires { HasRoom self.old }
-        ensures { Completes self.old at least self.new result }
+        ensures { CompletesAll self.old at least self.new result }
     {
         while let Some(next) = self.reduce_top(at, least) {
             at = next;
@@ -91,17 +99,15 @@ impl<'a> Builder<'a> {
     fn operand(&mut self, t: Token) -> Option<Position>
         requires { HasRoom self.old }
         ensures grown { Grown 1 self.old self.new }
-        ensures turns { (sheet : ℕ) (b : List Expr) (ps : List Part) → Within sheet t → ToCome sheet self.old b ps → MatchOption result (Dead want b ps t) (λ q. Turns sheet self.new q want b ps t) }
+        ensures turns { (sheet : ℕ) (b : List Expr) (ps : List Part) → Within sheet t → WantsOperand sheet self.old b ps → MatchOption result (Dead want b ps t) (λ q. Turns sheet self.new q want b ps t) }
     {
         match t.symbol {
             Symbol::Leaf(leaf) => {
-                let at = self.used;
-                self.tree[at] = TreeEntry::Leaf {
+                let at = self.add(TreeEntry::Leaf {
                     leaf,
                     place: t.place,
                     len: t.len,
-                };
-                self.used = at + 1;
+                });
                 Some(Position::After(at))
             }
             Symbol::Open => {
@@ -125,16 +131,14 @@ impl<'a> Builder<'a> {
         requires lower { Lower 0 (held self.old.parts) }
         requires ends { follow t.symbol ≡ None }
         ensures grown { Grown 1 self.old self.new }
-        ensures turns { (sheet : ℕ) (b : List Expr) (ps : List Part) (k : ℕ) (e : Expr) → Come sheet self.old at k b ps e → MatchOption result (Dead (after k e) b ps t) (λ q. Turns sheet self.new q (after k e) b ps t) }
+        ensures turns { (sheet : ℕ) (b : List Expr) (ps : List Part) (k : ℕ) (e : Expr) → HasOperand sheet self.old at k b ps e → MatchOption result (Dead (after k e) b ps t) (λ q. Turns sheet self.new q (after k e) b ps t) }
     {
         match (self.parts.pop(), t.symbol) {
             (None, Symbol::Semicolon) => {
-                let i = self.used;
-                self.tree[i] = TreeEntry::Statement {
+                let i = self.add(TreeEntry::Statement {
                     before: self.last,
                     expression: at,
-                };
-                self.used = i + 1;
+                });
                 self.last = Some(i);
                 Some(Position::Start)
             }
@@ -151,7 +155,7 @@ impl<'a> Builder<'a> {
     fn open(&mut self, at: usize, f: Follow)
         requires { HasRoom self.old }
         ensures grown { Grown 1 self.old self.new }
-        ensures turns { (sheet : ℕ) (b : List Expr) (ps : List Part) (k : ℕ) (e : Expr) (t : AnyToken) → follow t.symbol ≡ Some f → wants ps ≤ level f → left f ≤ k → Come sheet self.old at k b ps e → Turns sheet self.new Want (after k e) b ps t }
+        ensures turns { (sheet : ℕ) (b : List Expr) (ps : List Part) (k : ℕ) (e : Expr) (t : AnyToken) → follow t.symbol ≡ Some f → wants ps ≤ level f → left f ≤ k → HasOperand sheet self.old at k b ps e → Turns sheet self.new Want (after k e) b ps t }
     {
         self.parts.push(match f {
             Follow::Infix(operator) => OperatorEntry::Infix { operator, left: at },
@@ -163,7 +167,7 @@ impl<'a> Builder<'a> {
     fn follow(&mut self, at: usize, t: Token) -> Option<Position>
         requires { HasRoom self.old }
         ensures grown { Grown 1 self.old self.new }
-        ensures turns { (sheet : ℕ) (b : List Expr) (ps : List Part) (e : Expr) → Come sheet self.old at atom b ps e → MatchOption result (Dead (after atom e) b ps t) (λ q. Turns sheet self.new q (after atom e) b ps t) }
+        ensures turns { (sheet : ℕ) (b : List Expr) (ps : List Part) (e : Expr) → HasOperand sheet self.old at atom b ps e → MatchOption result (Dead (after atom e) b ps t) (λ q. Turns sheet self.new q (after atom e) b ps t) }
     {
         match t.symbol.follow() {
             Some(f) => {

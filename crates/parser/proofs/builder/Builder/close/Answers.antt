@@ -1,14 +1,20 @@
-use Rattle.std.proofs.Common.{◌≡◌, ◌∷◌, length, ap, arith}
+use Rattle.std.proofs.Common.{◌≡◌, ◌∷◌, length, Some, ap, arith}
 use Rattle.std.proofs.lemmas.Option.{MatchOption-at_none}
 use Rattle.stack.specs.Items.{held}
 use Rattle.parser.specs.declared.tree.OperatorEntry.TheVariants.{Bracket, Consequent}
+use Rattle.parser.specs.declared.builder.Position.TheVariants.{Start}
+use Rattle.parser.specs.Machine.{after}
+use Rattle.parser.specs.Holds.{Next}
+use Rattle.parser.proofs.Reductions.{added}
 use Rattle.parser.proofs.Arms.{step_close, step_colon, step_end, unmet, not_end, not_shut, not_met}
 use Rattle.parser.proofs.builder.Builder.close.Goals as goal
 
 pub returns-in-None-Semicolon-clause-turns : goal.returns-in-None-Semicolon-clause-turns
 returns-in-None-Semicolon-clause-turns c =
     let none = MatchOption-at_none _ _ c.in-None-Semicolon.is-0 c.pop.ensures.holds in
-    λ sheet b ps k e h. step_end _ c.in-None-Semicolon.is-1 none.0 none.1 (omega (arith, c.requires.room.in_tree)) h
+    λ sheet b ps k e h.
+    added (λ table fs used last at. Next sheet table fs (record { used = used; last = Some at; position = Start }) (after k e) b ps c.args.t) c.add-i.ensures
+    (step_end _ c.in-None-Semicolon.is-1 none.0 none.1 (omega (arith, c.requires.room.in_tree)) h)
 
 pub returns-in-Some-Bracket-Close-clause-turns : goal.returns-in-Some-Bracket-Close-clause-turns
 returns-in-Some-Bracket-Close-clause-turns c =
