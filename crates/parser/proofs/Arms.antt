@@ -1,5 +1,5 @@
 -- What each arm of the reader's functions leaves. Assumes nothing.
-use Rattle.std.proofs.Common.{◌≡◌, ℕ, ◌+◌, ◌<◌, ◌≤◌, List, [], ◌∷◌, ◌++◌, length, set, IfSome, Some, None, Option, sym, refl, ap, ◌∙◌, subst, inl, inr, arith, MatchOption}
+use Rattle.std.proofs.Common.{◌≡◌, ℕ, ◌+◌, ◌<◌, ◌≤◌, List, [], ◌∷◌, ◌++◌, length, set, Some, None, Option, sym, refl, ap, ◌∙◌, subst, inl, inr, arith, MatchOption}
 use Rattle.parser.specs.declared.symbols.Leaf.{Leaf as AnyLeaf}
 use Rattle.parser.specs.declared.symbols.Prefix.{Prefix as AnyPrefix}
 use Rattle.parser.specs.declared.symbols.Operator.{Operator}
@@ -12,14 +12,12 @@ use Rattle.parser.specs.declared.tree.TreeEntry.{TreeEntry}
 use Rattle.parser.specs.declared.tree.TreeEntry.TheVariants.{Leaf as LeafEntry, Statement}
 use Rattle.parser.specs.declared.tree.OperatorEntry.{OperatorEntry}
 use Rattle.parser.specs.declared.tree.OperatorEntry.TheVariants.{Infix as Waiting, Prefix as Applying, Otherwise, Bracket, Consequent}
-use Rattle.parser.specs.declared.progress.Operand.{Operand}
-use Rattle.parser.specs.declared.progress.Position.TheVariants.{Start, Want, After}
-use Rattle.parser.specs.declared.progress.Progress.{Progress}
+use Rattle.parser.specs.declared.builder.Position.TheVariants.{Start, Want, After}
 use Rattle.parser.specs.Syntax.{Expr, leaf}
 use Rattle.parser.specs.Grammar.{leaf_of, before, follow, left, level, atom}
 use Rattle.parser.specs.Table.{Tree, leaf_at, Listed, one_more, proper_leaf, proper_statement}
 use Rattle.parser.specs.Machine.{right_infix, right_prefix, otherwise, Part, right, bracket, consequent, State, start, want, after, wants, Ready, Same, Dead}
-use Rattle.parser.specs.Holds.{Within, Fits, Ends, AfterAll, Reduced, Kept, Frames, no_frame, an_infix, a_prefix, an_otherwise, a_bracket, a_consequent, Before, Ended, at_start, at_want, at_after, Next, Lower}
+use Rattle.parser.specs.Holds.{Operand, Progress, Within, Fits, Ends, AfterAll, Reduced, Kept, Frames, no_frame, an_infix, a_prefix, an_otherwise, a_bracket, a_consequent, Before, Ended, at_start, at_want, at_after, Next, Lower}
 use Rattle.parser.proofs.Corner.{left_atom}
 use Rattle.parser.proofs.Turns.{one_follow, never, wants_prefix, at_infix, at_question, at_leaf, at_open, at_prefix, at_close, at_end, at_colon, Closer, not_closed}
 use Rattle.parser.proofs.TreeTables.{kept_set, set_at, tree_kept, listed_kept, below, earlier, before_more}
@@ -200,16 +198,16 @@ via_next a n = record {
   same = λ ts all. (λ x. (n.same ts all).0 ((a.same ts all).0 x), λ x. (a.same ts all).1 ((n.same ts all).1 x));
 }
 
-pub via : {sheet : ℕ} {new : List TreeEntry} {gs : List OperatorEntry} {o : Operand} {last : Option ℕ} {k : ℕ} {e : Expr} {ps : List Part} {t : Token} {b : List Expr} (table : List TreeEntry) (fs : List OperatorEntry) (a : AfterAll sheet new gs o last k b ps e t) (r : Option Progress) → MatchOption r (Dead (after a.tight a.tree) b a.parts t) (λ n. Next sheet table fs n (after a.tight a.tree) b a.parts t) → MatchOption r (Dead (after k e) b ps t) (λ n. Next sheet table fs n (after k e) b ps t)
-via table fs a None d = λ ts all x. d ts all ((a.same ts all).0 x)
-via table fs a (Some n) h = via_next a h
+pub via : {A : Type 0} {sheet : ℕ} {new : List TreeEntry} {gs : List OperatorEntry} {o : Operand} {last : Option ℕ} {k : ℕ} {e : Expr} {ps : List Part} {t : Token} {b : List Expr} (table : List TreeEntry) (fs : List OperatorEntry) (f : A → Progress) (a : AfterAll sheet new gs o last k b ps e t) (r : Option A) → MatchOption r (Dead (after a.tight a.tree) b a.parts t) (λ n. Next sheet table fs (f n) (after a.tight a.tree) b a.parts t) → MatchOption r (Dead (after k e) b ps t) (λ n. Next sheet table fs (f n) (after k e) b ps t)
+via table fs f a None d = λ ts all x. d ts all ((a.same ts all).0 x)
+via table fs f a (Some n) h = via_next a h
 
-pub at_most : (r : Option Progress) (m n k : ℕ) → n ≤ k → IfSome r (λ p. p.used + m ≤ n) → IfSome r (λ p. p.used + m ≤ k)
-at_most None m n k l h = tt
-at_most (Some p) m n k l h = omega arith
+-- the last statement, by another name
+pub relast : {sheet : ℕ} {table : List TreeEntry} {fs : List OperatorEntry} {o : Operand} {last last' : Option ℕ} {k : ℕ} {b : List Expr} {ps : List Part} {e : Expr} → last' ≡ last → Ended sheet table fs o last k b ps e → Ended sheet table fs o last' k b ps e
+relast {sheet} {table} {fs} {o} {k = k} {b} {ps} {e} same h = subst (λ l. Ended sheet table fs o l k b ps e) (sym same) h
 
 -- a token that goes on, after the reductions
-pub goes_on_at : {sheet : ℕ} {old new : List TreeEntry} {fs gs hs : List OperatorEntry} {last : Option ℕ} {b : List Expr} {ps : List Part} {e : Expr} {i o : Operand} {p : Progress} (t : Token) (f : Follow) (lv : ℕ) → Some f ≡ follow t.symbol → lv ≡ level f → Reduced old fs i (lv + 1) new gs o → Lower (lv + 1) gs → Ended sheet old fs i last atom b ps e → ((ps : List Part) (k : ℕ) (e : Expr) (t : Token) → follow t.symbol ≡ Some f → wants ps ≤ level f → left f ≤ k → Ended sheet new gs o last k b ps e → Next sheet new hs p (after k e) b ps t) → Next sheet new hs p (after atom e) b ps t
+pub goes_on_at : {sheet : ℕ} {old new newer : List TreeEntry} {fs gs hs : List OperatorEntry} {last : Option ℕ} {b : List Expr} {ps : List Part} {e : Expr} {i o : Operand} {p : Progress} (t : Token) (f : Follow) (lv : ℕ) → Some f ≡ follow t.symbol → lv ≡ level f → Reduced old fs i (lv + 1) new gs o → Lower (lv + 1) gs → Ended sheet old fs i last atom b ps e → ((ps : List Part) (k : ℕ) (e : Expr) (t : Token) → follow t.symbol ≡ Some f → wants ps ≤ level f → left f ≤ k → Ended sheet new gs o last k b ps e → Next sheet newer hs p (after k e) b ps t) → Next sheet newer hs p (after atom e) b ps t
 goes_on_at {sheet} {old} {new} {fs} {gs} {last = last} {b = b} {ps = ps} {e} {i} {o} t f lv is same r lower h k =
     let q = subst (λ l. Reduced old fs i (l + 1) new gs o) same r in
     let a = q.turns sheet last atom b ps e t h (fits_atom t) (ends_follow t f (sym is)) in

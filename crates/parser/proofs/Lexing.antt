@@ -12,12 +12,14 @@ use Rattle.lexer.proofs.Unique.{gap_once, lexes_once}
 use Rattle.parser.specs.declared.symbols.Token.{Token}
 use Rattle.parser.specs.declared.tree.TreeEntry.{TreeEntry}
 use Rattle.parser.specs.declared.tree.OperatorEntry.{OperatorEntry}
-use Rattle.parser.specs.declared.progress.Position.TheVariants.{Start}
-use Rattle.parser.specs.declared.progress.Progress.{Progress}
+use Rattle.parser.specs.declared.builder.Builder.{Builder}
+use Rattle.parser.specs.declared.builder.Position.TheVariants.{Start}
+use Rattle.parser.specs.Building.{IsEmpty, progress}
+use Rattle.stack.specs.Items.{held}
 use Rattle.parser.specs.Symbols.{symbol_of}
 use Rattle.parser.specs.Grammar.{Program, Begins}
 use Rattle.parser.specs.Machine.{Dead}
-use Rattle.parser.specs.Holds.{Within, Next, Sofar}
+use Rattle.parser.specs.Holds.{Progress, Within, Next, Sofar}
 use Rattle.parser.specs.Reading.{token_of, tokens, NotProgram, BreaksOff, at_token}
 use Rattle.parser.proofs.Whole.{sofar_none, sofar_more, no_start}
 
@@ -113,8 +115,17 @@ not_stopped {sheet = sheet} {at = at} e s h =
     let z : ◌≡◌ {A = ℕ} 0 1 = cc in
     absurd (omega arith)
 
-pub along_none : (sheet : List ℕ) (ls : List Tok) (table : List TreeEntry) (fs : List OperatorEntry) → fs ≡ [] → Lexes sheet 0 ls finished → Along sheet ls 0 table fs (record { used = 0; last = None; position = Start })
-along_none sheet ls table fs e l = record { before = []; rest = ls; whole = refl; lexes = l; sofar = sofar_none (length sheet) table fs e; few = omega (arith, ap length e) }
+pub along_none : (sheet : List ℕ) (ls : List Tok) (b : Builder) → IsEmpty b → Lexes sheet 0 ls finished → Along sheet ls 0 b.tree.now (held b.parts) (progress b Start)
+along_none sheet ls b e l =
+    let none : progress b Start ≡ record { used = 0; last = None; position = Start } = let u = e.used in let s = e.last in cc in
+    record {
+      before = [];
+      rest = ls;
+      whole = refl;
+      lexes = l;
+      sofar = subst (λ p. Sofar (length sheet) [] b.tree.now (held b.parts) p) (sym none) (sofar_none (length sheet) b.tree.now (held b.parts) e.parts);
+      few = omega (arith, ap length e.parts, e.used);
+    }
 
 -- what holds once all the tokens are read
 pub all_along : {A : Type 0} {sheet : List ℕ} {ls : List Tok} {at : ℕ} {table : List TreeEntry} {fs : List OperatorEntry} {p : Progress} (h : Along sheet ls at table fs p) → h.before ≡ ls → (p.used ≤ length ls → Sofar (length sheet) (tokens sheet ls) table fs p → A) → A

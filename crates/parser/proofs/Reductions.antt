@@ -1,13 +1,15 @@
 -- Applying the pending operators, one and then all. Assumes nothing.
-use Rattle.std.proofs.Common.{◌≡◌, ℕ, ◌+◌, ◌<◌, ◌≤◌, List, [], ◌∷◌, length, set, Some, None, Option, sym, refl, subst, arith, MatchOption}
+use Rattle.std.proofs.Common.{◌≡◌, ℕ, ◌+◌, ◌<◌, ◌≤◌, List, [], ◌∷◌, length, set, Some, None, Option, sym, refl, ◌∙◌, subst, arith, MatchOption}
+use Rattle.stack.specs.Items.{held}
 use Rattle.parser.specs.declared.symbols.Token.{Token}
 use Rattle.parser.specs.declared.tree.TreeEntry.{TreeEntry}
 use Rattle.parser.specs.declared.tree.OperatorEntry.{OperatorEntry}
-use Rattle.parser.specs.declared.progress.Operand.{Operand}
+use Rattle.parser.specs.declared.builder.Builder.{Builder}
+use Rattle.parser.specs.Building.{Adds, Grown}
 use Rattle.parser.specs.Syntax.{Expr}
 use Rattle.parser.specs.Table.{tree_at, Tree, binary_at, unary_at, choice_at, Proper, proper_unary, proper_binary, proper_choice}
 use Rattle.parser.specs.Machine.{Right, right_infix, right_prefix, otherwise, wanted, tightness, built, Part, right, wants, Ready}
-use Rattle.parser.specs.Holds.{Kept, Frames, an_infix, a_prefix, an_otherwise, a_bracket, a_consequent, Before, Ends, AfterAll, Reduced, completion, awaits}
+use Rattle.parser.specs.Holds.{Operand, Kept, Frames, an_infix, a_prefix, an_otherwise, a_bracket, a_consequent, Before, Ends, AfterAll, Reduced, completion, awaits}
 use Rattle.parser.proofs.Corner.{left_fits}
 use Rattle.parser.proofs.Turns.{never, reduce}
 use Rattle.parser.proofs.TreeTables.{kept_set, set_at, tree_kept, below, before_more}
@@ -75,6 +77,14 @@ reduced_more r s = record {
         same = λ ts all. (λ x. (n.same ts all).0 ((m.same ts all).0 x), λ x. (m.same ts all).1 ((n.same ts all).1 x));
       };
 }
+
+-- what holds of a builder with an entry more, by what it held before
+pub added : {entry : TreeEntry} {old new : Builder} {at : ℕ} (P : List TreeEntry → List OperatorEntry → ℕ → Option ℕ → ℕ → Type 0) → Adds entry old new at → P (set old.tree.now old.used entry) (held old.parts) (old.used + 1) old.last old.used → P new.tree.now (held new.parts) new.used new.last at
+added P a p = rw (a.tree, a.parts, a.used, a.last, a.index) p
+
+-- the tables grow by what two turns take
+pub grown_more : {n : ℕ} {a b c : Builder} → Grown 0 a b → Grown n b c → Grown n a c
+grown_more g h = record { lent = h.lent ∙ g.lent; long = h.long ∙ g.long; space = h.space ∙ g.space; few = omega (arith, g.few, h.few) }
 
 -- the same, where the top was seen and then taken
 pub reduced_top : (table : List TreeEntry) (fs fs' rest : List OperatorEntry) (x : OperatorEntry) (y : TreeEntry) (r : Option OperatorEntry) (o : Operand) (least : ℕ) → fs ≡ x ∷ rest → MatchOption r ((fs ≡ []) × (fs' ≡ [])) (λ z. fs ≡ z ∷ fs') → completion x o.at ≡ Some y → least ≤ awaits x → o.used < length table → Reduced table fs o least (set table o.used y) fs' (record { at = o.used; used = o.used + 1 })

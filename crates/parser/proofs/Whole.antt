@@ -4,9 +4,8 @@ use Rattle.std.proofs.lemmas.List.{length-map}
 use Rattle.parser.specs.declared.symbols.Token.{Token}
 use Rattle.parser.specs.declared.tree.TreeEntry.{TreeEntry}
 use Rattle.parser.specs.declared.tree.OperatorEntry.{OperatorEntry}
-use Rattle.parser.specs.declared.progress.Position.{Position}
-use Rattle.parser.specs.declared.progress.Position.TheVariants.{Start, Want, After}
-use Rattle.parser.specs.declared.progress.Progress.{Progress}
+use Rattle.parser.specs.declared.builder.Position.{Position}
+use Rattle.parser.specs.declared.builder.Position.TheVariants.{Start, Want, After}
 use Rattle.lexer.specs.Reading.{Lexes, finished as all-tokens}
 use Rattle.lexer.specs.Scanning.{Tok}
 use Rattle.lexer.proofs.Unique.{lexes_once}
@@ -15,16 +14,16 @@ use Rattle.parser.specs.Syntax.{Expr}
 use Rattle.parser.specs.Grammar.{atom, Program, Begins}
 use Rattle.parser.specs.Table.{Listed, no_more}
 use Rattle.parser.specs.Machine.{Ready, Part, State, start, want, after, Completes, Dead}
-use Rattle.parser.specs.Holds.{Before, Frames, no_frame, Ended, Stage, at_start, at_want, at_after, Holds, Next, Sofar}
+use Rattle.parser.specs.Holds.{Progress, Before, Frames, no_frame, Ended, Stage, at_start, at_want, at_after, Holds, Next, Sofar}
 use Rattle.parser.specs.Reading.{token_of, tokens, Represents, NotProgram, at_end}
 use Rattle.parser.proofs.Counting.{program_size}
 use Rattle.parser.proofs.Turns.{wants_atom, begin, finish, finished, want_more, after_more, Alive, want_alive, after_alive}
 
-module _ (sheet : ℕ) (old table : List TreeEntry) (fs gs : List OperatorEntry) (t : Token) (p : Progress) (r : Option Progress) (s : State) (b : List Expr) (ps : List Part) (h : Holds sheet old fs p s b ps) where
-  pub from_start : p.position ≡ Start → (Before sheet old fs p.used p.last b ps → MatchOption r (Dead want b ps t) (λ n. Next sheet table gs n want b ps t)) → MatchOption r (Dead s b ps t) (λ n. Next sheet table gs n s b ps t)
+module _ {A : Type 0} (told : A → Progress) (sheet : ℕ) (old table : List TreeEntry) (fs gs : List OperatorEntry) (t : Token) (p : Progress) (r : Option A) (s : State) (b : List Expr) (ps : List Part) (h : Holds sheet old fs p s b ps) where
+  pub from_start : p.position ≡ Start → (Before sheet old fs p.used p.last b ps → MatchOption r (Dead want b ps t) (λ n. Next sheet table gs (told n) want b ps t)) → MatchOption r (Dead s b ps t) (λ n. Next sheet table gs (told n) s b ps t)
   from_start is k = go (subst (λ q. Stage old p.used q s ps) is h.stage) r (k h.before)
     where
-      go : {s : State} {ps : List Part} → Stage old p.used Start s ps → (r : Option Progress) → MatchOption r (Dead want b ps t) (λ n. Next sheet table gs n want b ps t) → MatchOption r (Dead s b ps t) (λ n. Next sheet table gs n s b ps t)
+      go : {s : State} {ps : List Part} → Stage old p.used Start s ps → (r : Option A) → MatchOption r (Dead want b ps t) (λ n. Next sheet table gs (told n) want b ps t) → MatchOption r (Dead s b ps t) (λ n. Next sheet table gs (told n) s b ps t)
       go at_start None d = λ ts all x. d ts all ((begin b t ts all).0 x)
       go at_start (Some n) d = record {
         state = d.state;
@@ -34,16 +33,16 @@ module _ (sheet : ℕ) (old table : List TreeEntry) (fs gs : List OperatorEntry)
         same = λ ts all. (λ x. (d.same ts all).0 ((begin b t ts all).0 x), λ x. (begin b t ts all).1 ((d.same ts all).1 x));
       }
 
-  pub from_want : p.position ≡ Want → (Before sheet old fs p.used p.last b ps → MatchOption r (Dead want b ps t) (λ n. Next sheet table gs n want b ps t)) → MatchOption r (Dead s b ps t) (λ n. Next sheet table gs n s b ps t)
+  pub from_want : p.position ≡ Want → (Before sheet old fs p.used p.last b ps → MatchOption r (Dead want b ps t) (λ n. Next sheet table gs (told n) want b ps t)) → MatchOption r (Dead s b ps t) (λ n. Next sheet table gs (told n) s b ps t)
   from_want is k = go (subst (λ q. Stage old p.used q s ps) is h.stage) (k h.before)
     where
-      go : {s : State} {ps : List Part} → Stage old p.used Want s ps → MatchOption r (Dead want b ps t) (λ n. Next sheet table gs n want b ps t) → MatchOption r (Dead s b ps t) (λ n. Next sheet table gs n s b ps t)
+      go : {s : State} {ps : List Part} → Stage old p.used Want s ps → MatchOption r (Dead want b ps t) (λ n. Next sheet table gs (told n) want b ps t) → MatchOption r (Dead s b ps t) (λ n. Next sheet table gs (told n) s b ps t)
       go at_want d = d
 
-  pub from_after : (i : ℕ) → p.position ≡ After i → ((e : Expr) → Ended sheet old fs (record { at = i; used = p.used }) p.last atom b ps e → MatchOption r (Dead (after atom e) b ps t) (λ n. Next sheet table gs n (after atom e) b ps t)) → MatchOption r (Dead s b ps t) (λ n. Next sheet table gs n s b ps t)
+  pub from_after : (i : ℕ) → p.position ≡ After i → ((e : Expr) → Ended sheet old fs (record { at = i; used = p.used }) p.last atom b ps e → MatchOption r (Dead (after atom e) b ps t) (λ n. Next sheet table gs (told n) (after atom e) b ps t)) → MatchOption r (Dead s b ps t) (λ n. Next sheet table gs (told n) s b ps t)
   from_after i is k = go (subst (λ q. Stage old p.used q s ps) is h.stage) h.before k
     where
-      go : {s : State} {ps : List Part} → Stage old p.used (After i) s ps → Before sheet old fs p.used p.last b ps → ((e : Expr) → Ended sheet old fs (record { at = i; used = p.used }) p.last atom b ps e → MatchOption r (Dead (after atom e) b ps t) (λ n. Next sheet table gs n (after atom e) b ps t)) → MatchOption r (Dead s b ps t) (λ n. Next sheet table gs n s b ps t)
+      go : {s : State} {ps : List Part} → Stage old p.used (After i) s ps → Before sheet old fs p.used p.last b ps → ((e : Expr) → Ended sheet old fs (record { at = i; used = p.used }) p.last atom b ps e → MatchOption r (Dead (after atom e) b ps t) (λ n. Next sheet table gs (told n) (after atom e) b ps t)) → MatchOption r (Dead s b ps t) (λ n. Next sheet table gs (told n) s b ps t)
       go (at_after {ps = ps} {e = e} low tree) h k = k e (record { before = h; fits = wants_atom ps; low = low; tree = tree })
 
 -- the run

@@ -8,14 +8,23 @@ use Rattle.parser.specs.declared.tree.TreeEntry.{TreeEntry}
 use Rattle.parser.specs.declared.tree.TreeEntry.TheVariants.{Unary, Binary, Choice}
 use Rattle.parser.specs.declared.tree.OperatorEntry.{OperatorEntry}
 use Rattle.parser.specs.declared.tree.OperatorEntry.TheVariants.{Blank, Infix, Prefix, Bracket, Consequent, Otherwise, Operand as Finished}
-use Rattle.parser.specs.declared.progress.Operand.{Operand}
-use Rattle.parser.specs.declared.progress.Position.{Position}
-use Rattle.parser.specs.declared.progress.Position.TheVariants.{Start, Want, After}
-use Rattle.parser.specs.declared.progress.Progress.{Progress}
+use Rattle.parser.specs.declared.builder.Position.{Position}
+use Rattle.parser.specs.declared.builder.Position.TheVariants.{Start, Want, After}
 use Rattle.parser.specs.Syntax.{Expr}
 use Rattle.parser.specs.Grammar.{follow, left, level, binding, prefix, atom, Program}
 use Rattle.parser.specs.Table.{tree_at, Tree, Listed, AllProper}
 use Rattle.parser.specs.Machine.{right_infix, right_prefix, otherwise, Part, right, bracket, consequent, State, start, want, after, wants, Completes, Ready, Same}
+
+-- the operand that has just ended: its index, and how many entries of the table are in use
+pub record Operand : Type 0 where
+  pub at : ℕ
+  pub used : ℕ
+
+-- the entries in use, the last statement that has ended, and what was seen last
+pub record Progress : Type 0 where
+  pub used : ℕ
+  pub last : Option ℕ
+  pub position : Position
 
 -- the token lies in a sheet of this size
 abbrev pub Within : ℕ → Token → Type 0

@@ -5,5 +5,6 @@ pub mod Table
 pub mod Reading
 pub mod Machine
 pub mod Holds
+pub mod Building
 pub mod Parsing
 pub mod Lending

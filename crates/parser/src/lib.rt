@@ -5,11 +5,9 @@ ghost use Rattle.std.specs.Prelude.{length};
 ghost use Rattle.parser.specs.Reading.{Reads};
 ghost use Rattle.parser.specs.Lending.{Lent, sizes_of};
 
-mod operand;
+mod builder;
 mod parse;
-mod progress;
 pub mod reading;
-mod steps;
 pub mod symbols;
 pub mod tables;
 mod tokens;

@@ -1,17 +1,13 @@
 // Reads the tokens of a sheet into the tree table.
-ghost use Rattle.std.specs.Prelude.{◌≡◌, ℕ, ◌≤◌, List, length};
-ghost use Rattle.lexer.specs.Reading.{Lexes, finished};
-ghost use Rattle.lexer.specs.Scanning.{Tok, Clean};
+ghost use Rattle.std.specs.Prelude.{◌≡◌, ℕ, ◌≤◌, length};
+ghost use Rattle.lexer.specs.Scanning.{Clean};
+ghost use Rattle.stack.specs.Items.{room};
 ghost use Rattle.parser.specs.Symbols.{symbol_of};
-ghost use Rattle.parser.specs.Holds.{Sofar};
-ghost use Rattle.parser.specs.Reading.{tokens};
+ghost use Rattle.parser.specs.Building.{IsEmpty};
 ghost use Rattle.parser.specs.Parsing.{Parses};
-ghost use Rattle.parser.specs.declared.tree.TreeEntry.{TreeEntry as AnyEntry};
-ghost use Rattle.parser.specs.declared.tree.OperatorEntry.{OperatorEntry as AnyFrame};
 
-use crate::progress::{Position, Progress};
+use crate::builder::{Builder, Position};
 use crate::reading::Read;
-use crate::steps::step;
 use crate::symbols::Token;
 use crate::tokens::symbol_of;
 use crate::tree::{OperatorEntry, TreeEntry};
@@ -19,7 +15,6 @@ use lexer::read;
 use lexer::read::Reader;
 use lexer::reasons::Reason;
 use lexer::refusal::Refusal;
-use stack::Stack;
 
 // A token as the grammar has it.
 impl From<read::Token<'_>> for Token {
@@ -34,20 +29,27 @@ impl From<read::Token<'_>> for Token {
     }
 }
 
-// What the tokens of a sheet are, which ends at `end`, once all of them are read.
-fn finish(p: Progress, end: usize) -> Result<Read, Refusal>
-    ensures { (sheet : List ℕ) (table : List AnyEntry) (fs : List AnyFrame) (ls : List Tok) → end ≡ length sheet → Lexes sheet 0 ls finished → length ls ≤ 4096 → p.used ≤ length ls → Sofar (length sheet) (tokens sheet ls) table fs p → Parses sheet table result }
+// Reads a sheet whose tokens break no rule, with a builder that has no entry in use.
+fn build(sheet: &[u8], builder: &mut Builder) -> Result<Read, Refusal>
+    requires clean { (n : ℕ) × Clean sheet.now n }
+    requires empty { IsEmpty builder.old }
+    requires entries { 4096 ≤ length builder.old.tree.now }
+    requires places { 4096 ≤ room builder.old.parts }
+    ensures lent { builder.new.tree.ghost_name ≡ builder.old.tree.ghost_name }
+    ensures parses { Parses sheet.now builder.new.tree.now result }
 {
-    match p.position {
-        Position::Start => Ok(Read::new(p.used, p.last)),
-        _ => Err(Refusal {
+    let mut reader = Reader { sheet, at: 0 };
+    let mut position = Position::Start;
+    while let Some(t) = reader.next()? {
+        position = builder.step(position, t.into()).ok_or(Refusal {
             reason: Reason::NoProgram,
-            place: end,
-        }),
+            place: t.at,
+        })?;
     }
+    builder.finish(position, sheet.len())
 }
 
-// Reads a sheet whose tokens break no rule.
+// The same, with the tables that the builder takes.
 pub fn parse(
     sheet: &[u8],
     tree: &mut [TreeEntry],
@@ -58,18 +60,9 @@ pub fn parse(
     requires pending { 4096 ≤ length operators.old }
     ensures { Parses sheet.now tree.new result }
 {
-    let mut reader = Reader { sheet, at: 0 };
-    let mut stack = Stack::new(operators);
-    let mut p = Progress {
-        used: 0,
-        last: None,
-        position: Position::Start,
-    };
-    while let Some(t) = reader.next()? {
-        p = step(tree, &mut stack, p, t.into()).ok_or(Refusal {
-            reason: Reason::NoProgram,
-            place: t.at,
-        })?;
-    }
-    finish(p, sheet.len())
+    let mut builder = Builder::new(tree, operators);
+    let read = build(sheet, &mut builder);
+    // the tree is taken back by its name: so the proof knows what is left in it
+    let Builder { tree: _tree, .. } = builder;
+    read
 }

@@ -1,0 +1,78 @@
+-- What the builder's methods make of its tables, in the terms of Holds. No public contract cites it. Assumes nothing.
+use Rattle.std.specs.Prelude.{◌≡◌, ℕ, ◌+◌, ◌<◌, ◌≤◌, List, [], length, None, slice_set}
+use Rattle.stack.specs.Items.{held, room}
+use Rattle.parser.specs.declared.symbols.Token.{Token}
+use Rattle.parser.specs.declared.tree.TreeEntry.{TreeEntry}
+use Rattle.parser.specs.declared.builder.Builder.{Builder}
+use Rattle.parser.specs.declared.builder.Position.{Position}
+use Rattle.parser.specs.Syntax.{Expr}
+use Rattle.parser.specs.Machine.{Part, State}
+use Rattle.parser.specs.Holds.{Operand, Progress, Before, Ended, Reduced, Lower, Holds, Next}
+
+-- no entry is in use
+pub record IsEmpty (b : Builder) : Type 0 where
+  pub parts : held b.parts ≡ []
+  pub used : b.used ≡ 0
+  pub last : b.last ≡ None
+
+-- there is room for one entry more in each table
+pub record HasRoom (b : Builder) : Type 0 where
+  pub in_tree : b.used + length (held b.parts) < length b.tree.now
+  pub in_parts : b.used + length (held b.parts) < room b.parts
+
+-- the entry is written above those in use, at an index
+pub record Adds (entry : TreeEntry) (old new : Builder) (at : ℕ) : Type 0 where
+  pub lent : new.tree.ghost_name ≡ old.tree.ghost_name
+  pub tree : new.tree.now ≡ slice_set old.tree.now old.used entry
+  pub parts : new.parts ≡ old.parts
+  pub used : new.used ≡ old.used + 1
+  pub last : new.last ≡ old.last
+  pub index : at ≡ old.used
+
+-- the tables are the ones that they were, with at most n entries more in use
+pub record Grown (n : ℕ) (old new : Builder) : Type 0 where
+  pub lent : new.tree.ghost_name ≡ old.tree.ghost_name
+  pub long : length new.tree.now ≡ length old.tree.now
+  pub space : room new.parts ≡ room old.parts
+  pub few : new.used + length (held new.parts) ≤ old.used + length (held old.parts) + n
+
+abbrev pub operand : Builder → ℕ → Operand
+operand b at = record { at = at; used = b.used }
+
+abbrev pub progress : Builder → Position → Progress
+progress b q = record { used = b.used; last = b.last; position = q }
+
+-- the statements ss and the open parts ps are held, and an operand is to come
+abbrev pub WantsOperand : ℕ → Builder → List Expr → List Part → Type 0
+WantsOperand sheet b ss ps = Before sheet b.tree.now (held b.parts) b.used b.last ss ps
+
+-- the same, and the operand e has come, which stands at an index and binds as tightly as k
+abbrev pub HasOperand : ℕ → Builder → ℕ → ℕ → List Expr → List Part → Expr → Type 0
+HasOperand sheet b at k ss ps e = Ended sheet b.tree.now (held b.parts) (operand b at) b.last k ss ps e
+
+-- the configuration is held
+abbrev pub Stands : ℕ → Builder → Position → State → List Expr → List Part → Type 0
+Stands sheet b q s ss ps = Holds sheet b.tree.now (held b.parts) (progress b q) s ss ps
+
+-- and so is the one that t leads to
+abbrev pub Turns : ℕ → Builder → Position → State → List Expr → List Part → Token → Type 0
+Turns sheet b q s ss ps t = Next sheet b.tree.now (held b.parts) (progress b q) s ss ps t
+
+-- nothing is completed, for no part on top ends with an operand that binds as tightly as least
+pub record Lowest (least : ℕ) (old new : Builder) : Type 0 where
+  pub same : new ≡ old
+  pub lower : Lower least (held old.parts)
+
+-- the part on top is completed, with the operand at an index, and stands at another
+pub record CompletesTop (old : Builder) (at least : ℕ) (new : Builder) (at' : ℕ) : Type 0 where
+  pub grown : Grown 0 old new
+  pub last : new.last ≡ old.last
+  pub less : length (held new.parts) < length (held old.parts)
+  pub reduced : Reduced old.tree.now (held old.parts) (operand old at) least new.tree.now (held new.parts) (operand new at')
+
+-- all such parts are
+pub record CompletesAll (old : Builder) (at least : ℕ) (new : Builder) (at' : ℕ) : Type 0 where
+  pub grown : Grown 0 old new
+  pub last : new.last ≡ old.last
+  pub lower : Lower least (held new.parts)
+  pub reduced : Reduced old.tree.now (held old.parts) (operand old at) least new.tree.now (held new.parts) (operand new at')
