@@ -1,5 +1,5 @@
 -- Types without parts in hand, and the forms of the rules' types. Assumes nothing.
-use Rattle.std.proofs.Common.{◌≡◌, ℕ, List, Some, None, Option, sym, refl, subst, inl, arith, lit<}
+use Rattle.std.proofs.Common.{◌≡◌, ℕ, List, Some, None, Ok, Result, Option, sym, refl, subst, inl, arith, lit<}
 use Rattle.types.specs.declared.entries.TypeEntry.{TypeEntry}
 use Rattle.types.specs.Values.{Decimal}
 use Rattle.types.specs.Types.{Ty, any, number, number_literal, string, no_types, ◌and◌}
@@ -18,30 +18,30 @@ use Rattle.registers.specs.Telling.{MadeIn, Tells}
 use Rattle.parser.specs.declared.symbols.Leaf.{Leaf}
 use Rattle.building.proofs.Closed.{some_weight}
 use Rattle.checker.specs.declared.store.Store.{Store}
+use Rattle.checker.specs.declared.store.TooHeavy.{TooHeavy}
 use Rattle.checker.specs.Conditions.{Condition}
 use Rattle.checker.specs.Rules.{part, type_of, number_or_string, LeafRule, a_number, a_string, a_true, a_false, a_null, a_name}
 use Rattle.checker.specs.Makings.{LiteralForm}
 use Rattle.checker.specs.Stores.{entries, Tabled, Ready}
 
 -- a type whose parts stand below used is in hand
-pub plain_ready : (s : Store) {ts : List Ty} (e : TypeEntry) (t : Ty) → Tabled s ts → Is (entries s) s.used e t → Ready s s t (Some (record { entry = e; used = s.used }))
+pub plain_ready : (s : Store) {ts : List Ty} (e : TypeEntry) (t : Ty) → Tabled s ts → Is (entries s) s.used e t → Ready s s t (Ok (record { entry = e; used = s.used }))
 plain_ready s e t tabled h =
     let some = some_weight t in
     record {
       used = refl;
       count = refl;
       load = refl;
-      heavy = refl;
       long = refl;
       kept = λ j l. refl;
       heads = λ j l. refl;
-      in_hand = (h, omega arith, omega arith, omega (arith, tabled.light, tabled.within), filled_none (entries s) s.used);
+      in_hand = record { holds = h; more = omega arith; light = omega arith; within = omega (arith, tabled.light, tabled.within); filled = filled_none (entries s) s.used };
     }
 
-pub plain_as : (s : Store) {ts : List Ty} (e : TypeEntry) (t u : Ty) → u ≡ t → Tabled s ts → Is (entries s) s.used e t → Ready s s u (Some (record { entry = e; used = s.used }))
-plain_as s e t u q tabled h = subst (λ x. Ready s s x (Some (record { entry = e; used = s.used }))) (sym q) (plain_ready s e t tabled h)
+pub plain_as : (s : Store) {ts : List Ty} (e : TypeEntry) (t u : Ty) {m : Made} → m ≡ record { entry = e; used = s.used } → u ≡ t → Tabled s ts → Is (entries s) s.used e t → Ready s s u (Ok m)
+plain_as s e t u same q tabled h = subst (λ m. Ready s s u (Ok m)) (sym same) (subst (λ x. Ready s s x (Ok (record { entry = e; used = s.used }))) (sym q) (plain_ready s e t tabled h))
 
-pub ready_as : (s r : Store) (m : Option Made) {t u : Ty} → u ≡ t → Ready s r t m → Ready s r u m
+pub ready_as : (s r : Store) (m : Result Made TooHeavy) {t u : Ty} → u ≡ t → Ready s r t m → Ready s r u m
 ready_as s r m q h = subst (λ x. Ready s r x m) (sym q) h
 
 -- `number | string` is the union of its two members
@@ -53,10 +53,9 @@ both_kinds = union_more (brings_itself number_kind (brings_itself string_kind br
     first u (in_other i) = absurd (in_none i)
 
 -- a number as it is written
-pub number_ready : (s : Store) {ts : List Ty} (text : List ℕ) (used : ℕ) (e : TypeEntry) (d : Decimal) → Tabled s ts → s.used ≡ used → Numeral text d → GivesNumber text (Some e) → Ready s s (number_literal d) (Some (record { entry = e; used = used }))
-number_ready s text used e d tabled same n g =
-    subst (λ k. Ready s s (number_literal d) (Some (record { entry = e; used = k }))) same
-    (plain_ready s e (number_literal d) tabled (subst (λ x. Is (entries s) s.used e (number_literal x)) (literal_laws.0 text g.number d g.numeral n) (g.holds (entries s) s.used)))
+pub number_ready : (s : Store) {ts : List Ty} (text : List ℕ) (e : TypeEntry) (d : Decimal) {m : Made} → m ≡ record { entry = e; used = s.used } → Tabled s ts → Numeral text d → GivesNumber text (Some e) → Ready s s (number_literal d) (Ok m)
+number_ready s text e d same tabled n g =
+    plain_as s e (number_literal d) (number_literal d) same refl tabled (subst (λ x. Is (entries s) s.used e (number_literal x)) (literal_laws.0 text g.number d g.numeral n) (g.holds (entries s) s.used))
 
 literal_form : {sheet : List ℕ} {Γ : Meaning} {p n : ℕ} {l : Leaf} {t : Ty} {cs : List Condition} → LeafRule sheet Γ p n l t cs → LiteralForm l (part sheet p n) t
 literal_form (a_number h) = (_, h, refl)

@@ -1,6 +1,9 @@
 -- The first frame of a walk, and what it has told in the end. Assumes nothing.
-use Rattle.std.proofs.Common.{◌≡◌, ℕ, suc, ◌+◌, ◌-◌, ◌<◌, ◌≤◌, false, List, [], ◌∷◌, length, get_or, Option, sym, ◌∙◌, subst, append-nil, arith}
+use Rattle.std.proofs.Common.{◌≡◌, ℕ, suc, ◌+◌, ◌-◌, ◌<◌, ◌≤◌, List, [], ◌∷◌, length, get_or, Ok, Err, Option, Result, sym, ◌∙◌, subst, append-nil, arith}
+use Rattle.std.specs.Result.{IsErr}
+use Rattle.std.proofs.lemmas.Bool.{false≢true}
 use Rattle.stack.specs.Items.{held}
+use Rattle.types.specs.declared.entries.TypeEntry.{TypeEntry}
 use Rattle.types.specs.Types.{any}
 use Rattle.types.specs.Table.{Is, entry_at}
 use Rattle.types.proofs.Lower.{higher}
@@ -9,13 +12,15 @@ use Rattle.parser.specs.declared.tree.TreeEntry.{TreeEntry}
 use Rattle.parser.specs.declared.tree.WalkFrame.TheVariants.{Statements}
 use Rattle.parser.specs.Syntax.{Expr, size, sizes}
 use Rattle.parser.specs.Table.{Listed}
-use Rattle.checker.specs.declared.check.Walked.{Walked}
-use Rattle.checker.specs.Rules.{Note, AllTyped, types}
-use Rattle.checker.specs.Findings.{none, blank, FirstOf}
-use Rattle.checker.specs.Stores.{entries}
+use Rattle.checker.specs.declared.finding.Finding.{Finding}
+use Rattle.checker.specs.declared.stage.Checked.{Checked}
+use Rattle.checker.specs.declared.store.TooHeavy.{TooHeavy}
+use Rattle.checker.specs.Rules.{Note, AllTyped, conditions, types}
+use Rattle.checker.specs.Findings.{none, blank, FirstOf, weigh}
+use Rattle.checker.specs.Stores.{entries, Tabled}
 use Rattle.checker.specs.Owing.{exprs, turns, owes_none, owes_statements, Going, going}
-use Rattle.checker.specs.Standing.{State, Rooms, Operands, no_operands, Stands, goes_on, Told, told_heavy, told_all}
-use Rattle.checker.specs.Walks.{WalkedAs, walked_heavy, walked_all}
+use Rattle.checker.specs.Standing.{State, Rooms, Operands, no_operands, Goes, Tells}
+use Rattle.checker.specs.Walks.{WalkedAs, WalkedOrHeavy}
 use Rattle.checker.proofs.Notes.{few_notes_of_all}
 use Rattle.checker.proofs.Ordered.{is_orderly, is_no_unit, stands_orderly}
 
@@ -32,27 +37,41 @@ first_going sheet Γ table last ss ns listed small typed =
     let b = bounds ss small in
     going (owes_statements listed typed (λ us. owes_none)) (append-nil ns) (omega (arith, b.1)) (omega (arith, b.0)) (omega (arith, few_notes_of_all typed))
 
-pub first_stands : (sheet : List ℕ) (Γ : Meaning) (table : List TreeEntry) (last : Option ℕ) (ss : List Expr) (ns : List Note) (w : State) → Listed table last ss → sizes ss ≤ 4096 → AllTyped sheet Γ ss ns
-    → held w.frames ≡ Statements last ∷ [] → held w.operators ≡ [] → Rooms w → 8192 ≤ length (entries w.store) → w.store.used ≡ 0 → w.store.count ≡ 0 → w.store.load ≡ 0 → w.store.heavy ≡ false
-    → w.findings.count ≡ 0 → FirstOf blank w.findings.slots.now [] → Stands sheet Γ table ns 8192 (held w.frames) w
-first_stands sheet Γ table last ss ns w listed small typed frames operators rooms size used count load heavy none_yet blanks =
-    goes_on (record {
+pub first_goes : (sheet : List ℕ) (Γ : Meaning) (table : List TreeEntry) (last : Option ℕ) (ss : List Expr) (ns : List Note) (w : State) → Listed table last ss → sizes ss ≤ 4096 → AllTyped sheet Γ ss ns
+    → held w.frames ≡ Statements last ∷ [] → held w.operators ≡ [] → Rooms w → 8192 ≤ length (entries w.store) → w.store.used ≡ 0 → w.store.count ≡ 0 → w.store.load ≡ 0
+    → w.findings.count ≡ 0 → FirstOf blank w.findings.slots.now [] → Goes sheet Γ table ns 8192 (held w.frames) w
+first_goes sheet Γ table last ss ns w listed small typed frames operators rooms size used count load none_yet blanks =
+    record {
       notes = [];
       operands = [];
-      light = heavy;
       tells = record { found = []; findings = none; kept = record { counts = none_yet; holds = blanks } };
       tabled = record { size = size; count = count; load = load; light = omega (arith, used, count); within = omega (arith, load); heads = λ k h. absurd (omega arith); filled = λ j a b. absurd (omega (arith, used)) };
       holds = subst (λ l. Operands (entries w.store) w.store.used l []) (sym operators) no_operands;
       rooms = rooms;
       goes = subst (λ l. Going sheet Γ table ns 8192 l [] []) (sym frames) (first_going sheet Γ table last ss ns listed small typed);
-    })
+    }
 
 -- what was told in the end
-pub walked : (ns : List Note) (w : State) (r : Walked) → r.count ≡ w.findings.count → r.expressions ≡ w.store.count → r.used ≡ w.store.used → r.heavy ≡ w.store.heavy → Told ns w → WalkedAs ns r w.findings.slots.now (entries w.store)
-walked ns w r c e u h (told_heavy x l) = walked_heavy (h ∙ x) l
-walked ns w r c e u h (told_all x t k) =
-    walked_all (h ∙ x) (omega (arith, k.load, k.within)) t.found t.findings (c ∙ t.kept.counts) t.kept.holds (e ∙ k.count) (λ i l. held_at i l)
-    (λ i l. stands_orderly (k.filled i (omega arith) (omega (arith, u))), λ i l. let h = held_at i (omega (arith, e, k.count)) in (is_orderly h, is_no_unit h))
+pub walked : (ns : List Note) (w : State) (c : Checked) → c.count ≡ w.findings.count → c.expressions ≡ w.store.count → c.used ≡ w.store.used → Tells w.findings (conditions ns) → Tabled w.store (types ns)
+    → WalkedAs ns c w.findings.slots.now (entries w.store)
+walked ns w c n e u t k = record {
+  load = omega (arith, k.load, k.within);
+  found = t.found;
+  findings = t.findings;
+  count = n ∙ t.kept.counts;
+  list = t.kept.holds;
+  expressions = e ∙ k.count;
+  types_held = λ i l. held_at i l;
+  in_order = (
+    λ i l. stands_orderly (k.filled i (omega arith) (omega (arith, u))),
+    λ i l. let h = held_at i (omega (arith, e, k.count)) in (is_orderly h, is_no_unit h),
+  );
+}
   where
     held_at : (i : ℕ) → i < length (types ns) → Is (entries w.store) (8191 - i) (entry_at (entries w.store) (8191 - i)) (get_or (types ns) i any)
     held_at i l = higher (8191 - i) (omega (arith, k.count, k.light, k.within)) (k.heads i l)
+
+-- or its load is too high
+pub walked_heavy : (ns : List Note) (r : Result Checked TooHeavy) (listed : List Finding) (es : List TypeEntry) → IsErr r → 8192 < weigh (types ns) → WalkedOrHeavy ns r listed es
+walked_heavy ns (Ok c) listed es h l = absurd (false≢true h)
+walked_heavy ns (Err e) listed es h l = l

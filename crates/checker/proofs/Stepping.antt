@@ -1,16 +1,16 @@
 -- The walk from step to step. Assumes nothing.
-use Rattle.std.proofs.Common.{◌≡◌, ℕ, ◌≤◌, true, false, List, [], ◌∷◌, sym, refl, ap, ◌∙◌, subst, append-nil, arith}
-use Rattle.std.proofs.lemmas.Bool.{false≢true}
+use Rattle.std.proofs.Common.{◌≡◌, ℕ, List, [], ◌∷◌, Result, sym, ap, ◌∙◌, subst, append-nil, arith}
 use Rattle.std.proofs.lemmas.List.{nil_from_length}
 use Rattle.stack.specs.Items.{held, room}
 use Rattle.registers.specs.Meaning.{Meaning}
 use Rattle.parser.specs.declared.tree.TreeEntry.{TreeEntry}
 use Rattle.parser.specs.declared.tree.WalkFrame.{WalkFrame}
 use Rattle.parser.specs.declared.tree.WalkFrame.TheVariants.{Blank}
+use Rattle.checker.specs.declared.store.TooHeavy.{TooHeavy}
 use Rattle.checker.specs.Rules.{Note, conditions, types}
 use Rattle.checker.specs.Owing.{Opd, owes_none, Going, going}
-use Rattle.checker.specs.Standing.{State, Goes, Stands, too_heavy, goes_on, Told, told_heavy, told_all, Operands, Tells}
-use Rattle.checker.specs.Stores.{entries, Tabled}
+use Rattle.checker.specs.Standing.{State, Goes, Tells, Onward}
+use Rattle.checker.specs.Stores.{Tabled}
 use Rattle.checker.proofs.Visiting.{frames_fit}
 
 module _ {sheet : List ℕ} {Γ : Meaning} {table : List TreeEntry} {whole : List Note} {left : ℕ} where
@@ -30,43 +30,34 @@ module _ {sheet : List ℕ} {Γ : Meaning} {table : List TreeEntry} {whole : Lis
   all_noted {ms = ms} (going owes_none all enough small brief) = sym (append-nil ms) ∙ all
 
   -- with no frame left, all is told
-  pub told_goes : (w v : State) → v.store ≡ w.store → v.findings ≡ w.findings → Goes sheet Γ table whole left [] w → Told whole v
-  told_goes w v s f g =
-      let e = all_noted g.goes in
-      told_all (subst (λ x. x.heavy ≡ false) (sym s) g.light) (subst (λ x. Tells x (conditions whole)) (sym f) (subst (λ ns. Tells w.findings (conditions ns)) e g.tells))
-      (subst (λ x. Tabled x (types whole)) (sym s) (subst (λ ns. Tabled w.store (types ns)) e g.tabled))
-
-  pub told_heavy_as : (w v : State) → w.store.heavy ≡ true → v.store ≡ w.store → Stands sheet Γ table whole left (held w.frames) w → Told whole v
-  told_heavy_as w v h s (too_heavy e l) = told_heavy (subst (λ x. x.heavy ≡ true) (sym s) e) l
-  told_heavy_as w v h s (goes_on g) = absurd (false≢true (sym g.light ∙ h))
-
-  -- the walk goes on where it is not too heavy
-  pub goes_light : (w : State) {fs : List WalkFrame} → w.store.heavy ≡ false → Stands sheet Γ table whole left fs w → Goes sheet Γ table whole left fs w
-  goes_light w h (too_heavy e l) = absurd (false≢true (sym h ∙ e))
-  goes_light w h (goes_on g) = g
+  pub told_goes : (w : State) → Goes sheet Γ table whole left [] w → Tells w.findings (conditions whole) × Tabled w.store (types whole)
+  told_goes w g = let e = all_noted g.goes in (subst (λ ns. Tells w.findings (conditions ns)) e g.tells, subst (λ ns. Tabled w.store (types ns)) e g.tabled)
 
   -- the frame on top was taken off
-  pub popped : (w v : State) (f : WalkFrame) → held w.frames ≡ f ∷ held v.frames → room v.frames ≡ room w.frames → v.operators ≡ w.operators → v.findings ≡ w.findings → v.store ≡ w.store
+  pub popped : (w v : State) (f : WalkFrame) → held w.frames ≡ f ∷ held v.frames → room v.frames ≡ room w.frames → v ≡ record w { frames = v.frames }
       → Goes sheet Γ table whole left (held w.frames) w → Goes sheet Γ table whole left (f ∷ held v.frames) v
-  popped w v f top space o i s g =
-      record {
+  popped w v f top space rest g =
+      subst (Goes sheet Γ table whole left (f ∷ held v.frames)) (sym rest)
+      (record {
         notes = g.notes;
         operands = g.operands;
-        light = subst (λ x. x.heavy ≡ false) (sym s) g.light;
-        tells = subst (λ x. Tells x (conditions g.notes)) (sym i) g.tells;
-        tabled = subst (λ x. Tabled x (types g.notes)) (sym s) g.tabled;
-        holds = subst (λ x. Operands (entries x) x.used (held v.operators) g.operands) (sym s) (subst (λ x. Operands (entries w.store) w.store.used (held x) g.operands) (sym o) g.holds);
-        rooms = record { frames = omega (arith, space, g.rooms.frames); operators = subst (λ x. 4096 ≤ room x) (sym o) g.rooms.operators };
+        tells = g.tells;
+        tabled = g.tabled;
+        holds = g.holds;
+        rooms = record { frames = omega (arith, space, g.rooms.frames); operators = g.rooms.operators };
         goes = subst (λ l. Going sheet Γ table whole left l g.operands g.notes) top g.goes;
-      }
+      })
+
+-- the frame that has been seen to, as it is written
+pub seen : {sheet : List ℕ} {Γ : Meaning} {table : List TreeEntry} {w v : State} {r : Result (Unit {0}) TooHeavy} {f h : WalkFrame} → f ≡ h → Onward sheet Γ table h w v r → Onward sheet Γ table f w v r
+seen {sheet} {Γ} {table} {w} {v} {r} e o = subst (λ f. Onward sheet Γ table f w v r) (sym e) o
 
 -- with no steps to go, all is told
-pub told_last : {sheet : List ℕ} {Γ : Meaning} {table : List TreeEntry} {whole : List Note} (left : ℕ) (w : State) → left ≡ 0 → Stands sheet Γ table whole left (held w.frames) w → Told whole w
-told_last left w z (too_heavy e l) = told_heavy e l
-told_last {sheet} {Γ} {table} {whole} left w z (goes_on g) =
+pub told_last : {sheet : List ℕ} {Γ : Meaning} {table : List TreeEntry} {whole : List Note} (left : ℕ) (w : State) → left ≡ 0 → Goes sheet Γ table whole left (held w.frames) w → Tells w.findings (conditions whole) × Tabled w.store (types whole)
+told_last {sheet} {Γ} {table} {whole} left w z g =
     let none : held w.frames ≡ [] = nil_from_length _ (omega (arith, (frames_fit g.goes).1)) in
-    told_goes w w refl refl (as_frames none g)
+    told_goes w (as_frames none g)
 
 -- one step less
-pub counted : {sheet : List ℕ} {Γ : Meaning} {table : List TreeEntry} {whole : List Note} (n m : ℕ) {fs : List WalkFrame} {w : State} → n ≡ m → Stands sheet Γ table whole n fs w → Stands sheet Γ table whole m fs w
-counted {sheet} {Γ} {table} {whole} n m {fs} {w} e s = subst (λ k. Stands sheet Γ table whole k fs w) e s
+pub counted : {sheet : List ℕ} {Γ : Meaning} {table : List TreeEntry} {whole : List Note} (n m : ℕ) {fs : List WalkFrame} {w : State} → n ≡ m → Goes sheet Γ table whole n fs w → Goes sheet Γ table whole m fs w
+counted {sheet} {Γ} {table} {whole} n m {fs} {w} e s = subst (λ k. Goes sheet Γ table whole k fs w) e s

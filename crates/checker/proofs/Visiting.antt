@@ -1,7 +1,8 @@
 -- One lemma for each entry of the tree that the walk visits. Assumes nothing.
-use Rattle.std.proofs.Common.{◌≡◌, ℕ, suc, ◌+◌, ◌≤◌, List, [], ◌∷◌, ◌++◌, length, Some, None, Option, sym, refl, ap, ◌∙◌, subst, append_assoc, arith, length-append}
+use Rattle.std.proofs.Common.{◌≡◌, ℕ, suc, ◌+◌, ◌≤◌, List, [], ◌∷◌, ◌++◌, reverse, length, Some, None, Option, sym, refl, ap, ◌∙◌, subst, append_assoc, arith, length-append}
+use Rattle.std.proofs.lemmas.List.{length-reverse}
 use Rattle.std.proofs.lemmas.Option.{none-some, same_Some}
-use Rattle.stack.specs.Items.{held, room}
+use Rattle.stack.specs.Items.{held}
 use Rattle.types.specs.Types.{Ty}
 use Rattle.registers.specs.Meaning.{Meaning, Sound}
 use Rattle.parser.specs.declared.symbols.Leaf.{Leaf as AnyLeaf}
@@ -21,9 +22,8 @@ use Rattle.checker.specs.declared.store.Store.{Store}
 use Rattle.parser.specs.declared.symbols.Leaf.TheVariants.{Name}
 use Rattle.checker.specs.Conditions.{Condition, bound}
 use Rattle.checker.specs.Rules.{part, type_of, LeafRule, a_number, a_string, a_true, a_false, a_null, a_name, Note, ends, Typed, typed_leaf, typed_unary, typed_binary, typed_choice, AllTyped, typed_none}
-use Rattle.checker.specs.Stores.{entries}
 use Rattle.checker.specs.Owing.{Opd, exprs, turns, Owes, owes_none, owes_statements, owes_expression, owes_unary, owes_binary, owes_choice, Going, going}
-use Rattle.checker.specs.Standing.{Operands, Pushed, State, state, Goes}
+use Rattle.checker.specs.Standing.{Pushed, State, state, Goes}
 use Rattle.checker.proofs.Notes.{last_typed}
 use Rattle.checker.proofs.Typable.{leaf_form}
 use Rattle.checker.proofs.Walking.{Finishing}
@@ -142,28 +142,28 @@ module _ {sheet : List ℕ} {Γ : Meaning} {table : List TreeEntry} {whole : Lis
 
 -- frames were put on top
 pub pushed_goes : {sheet : List ℕ} {Γ : Meaning} {table : List TreeEntry} {whole : List Note} {left : ℕ} (w v : Walk) (f : First Finding) (s : Store) (xs : List WalkFrame) {gs : List WalkFrame}
-    (g : Goes sheet Γ table whole (suc left) gs (state w f s)) → Pushed w xs v → Going sheet Γ table whole left (xs ++ held w.frames) g.operands g.notes → Goes sheet Γ table whole left (held v.frames) (state v f s)
+    (g : Goes sheet Γ table whole (suc left) gs (state w f s)) → Pushed w xs v → Going sheet Γ table whole left (reverse xs ++ held w.frames) g.operands g.notes → Goes sheet Γ table whole left (held v.frames) (state v f s)
 pushed_goes {sheet} {Γ} {table} {whole} {left} w v f s xs g p h =
     let fit = (frames_fit h).0 in
-    let long = length-append xs (held w.frames) in
-    let is = p.frames (omega (arith, g.rooms.frames)) in
-    record {
+    let long = length-append (reverse xs) (held w.frames) in
+    let is = p.frames (omega (arith, long, length-reverse xs, g.rooms.frames)) in
+    subst (λ x. Goes sheet Γ table whole left (held v.frames) (state x f s)) (sym p.rest)
+    (record {
       notes = g.notes;
       operands = g.operands;
-      light = g.light;
       tells = g.tells;
       tabled = g.tabled;
-      holds = subst (λ o. Operands (entries s) s.used (held o) g.operands) (sym p.operators) g.holds;
-      rooms = record { frames = omega (arith, p.space, g.rooms.frames); operators = subst (λ o. 4096 ≤ room o) (sym p.operators) g.rooms.operators };
+      holds = g.holds;
+      rooms = record { frames = omega (arith, p.space, g.rooms.frames); operators = g.rooms.operators };
       goes = subst (λ l. Going sheet Γ table whole left l g.operands g.notes) (sym is) h;
-    }
+    })
 
 -- a token, whose conditions and type are still to be noted
 pub leaf_finishing : {sheet : List ℕ} {Γ : Meaning} {table : List TreeEntry} {whole : List Note} {left : ℕ} {fs : List WalkFrame} (w : State) {gs : List WalkFrame} {p n : ℕ} {l : AnyLeaf} {t : Ty} {cs : List Condition}
     → Sound Γ → (g : Goes sheet Γ table whole (suc left) gs w) → LeafRule sheet Γ p n l t cs → Going sheet Γ table whole left fs ((p, t) ∷ g.operands) (g.notes ++ ends cs t)
     → Finishing sheet Γ table whole left fs w (held w.operators) p t cs
 leaf_finishing {sheet} {Γ} w sound g rule h =
-    record { notes = g.notes; operands = g.operands; light = g.light; tells = g.tells; tabled = g.tabled; holds = g.holds; rooms = g.rooms; formed = leaf_form sheet Γ sound rule; goes = h }
+    record { notes = g.notes; operands = g.operands; tells = g.tells; tabled = g.tabled; holds = g.holds; rooms = g.rooms; formed = leaf_form sheet Γ sound rule; goes = h }
 
 -- what a token sets
 
@@ -180,4 +180,4 @@ name_rule a_name = (refl, refl)
 
 -- the same tables, and less to do
 pub goes_with : {sheet : List ℕ} {Γ : Meaning} {table : List TreeEntry} {whole : List Note} {left : ℕ} {fs gs : List WalkFrame} {w : State} (g : Goes sheet Γ table whole (suc left) gs w) → Going sheet Γ table whole left fs g.operands g.notes → Goes sheet Γ table whole left fs w
-goes_with g h = record { notes = g.notes; operands = g.operands; light = g.light; tells = g.tells; tabled = g.tabled; holds = g.holds; rooms = g.rooms; goes = h }
+goes_with g h = record { notes = g.notes; operands = g.operands; tells = g.tells; tabled = g.tabled; holds = g.holds; rooms = g.rooms; goes = h }

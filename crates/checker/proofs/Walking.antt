@@ -1,5 +1,7 @@
 -- One lemma for each step of the walk. Assumes nothing.
-use Rattle.std.proofs.Common.{◌≡◌, ℕ, suc, ◌+◌, ◌<◌, ◌≤◌, true, false, List, [], ◌∷◌, ◌++◌, length, Some, Option, sym, refl, ap, ◌∙◌, subst, append_assoc, append-nil, arith, length-append}
+use Rattle.std.proofs.Common.{◌≡◌, ℕ, suc, ◌+◌, ◌<◌, ◌≤◌, List, [], ◌∷◌, ◌++◌, length, Ok, Err, Result, sym, refl, ap, ◌∙◌, subst, append_assoc, append-nil, arith, length-append}
+use Rattle.std.specs.Result.{IsErr}
+use Rattle.std.proofs.lemmas.Bool.{false≢true}
 use Rattle.stack.specs.Items.{held, room}
 use Rattle.types.specs.declared.entries.TypeEntry.{TypeEntry}
 use Rattle.types.specs.Types.{Ty, boolean, no_types, ◌and◌}
@@ -20,16 +22,22 @@ use Rattle.parser.specs.declared.tree.OperatorEntry.TheVariants.{Operand}
 use Rattle.parser.specs.declared.tree.WalkFrame.{WalkFrame}
 use Rattle.parser.specs.declared.tree.WalkFrame.TheVariants.{Unary, Binary, Choice}
 use Rattle.checker.specs.declared.store.Store.{Store}
+use Rattle.checker.specs.declared.store.TooHeavy.{TooHeavy}
 use Rattle.checker.specs.declared.walk.Operand.{Operand as Popped}
 use Rattle.checker.specs.Conditions.{Condition, fits}
 use Rattle.checker.specs.Rules.{PrefixRule, InfixRule, Note, has, ends, conditions, types}
 use Rattle.checker.specs.Findings.{weigh}
 use Rattle.checker.specs.Stores.{entries, Tabled, InHand, Ready, KeptType}
 use Rattle.checker.specs.Owing.{Opd, Owes, owes_unary, owes_binary, owes_choice, Going, going}
-use Rattle.checker.specs.Standing.{Takes, Operands, no_operands, one_operand, State, Tells, Asks, Rooms, Goes, Ending, Stands, too_heavy}
+use Rattle.checker.specs.Standing.{Takes, Operands, no_operands, one_operand, State, Tells, Asks, Rooms, Goes, Ending}
 use Rattle.checker.proofs.Logging.{conditions_append, types_append, asked, ends_asked, asked_conditions, asked_types, short}
 use Rattle.checker.proofs.Stored.{tabled_ready, weigh_append}
 use Rattle.checker.proofs.Typable.{prefix_form, infix_form, two_forms}
+
+-- what holds of each error holds where an error is passed on
+pub failed : {T E : Type 0} {r : Result T E} (P : Result T E → Type 0) → IsErr r → ((e : E) → P (Err e)) → P r
+failed {r = Ok x} P h all = absurd (false≢true h)
+failed {r = Err e} P h all = all e
 
 -- operands
 
@@ -51,27 +59,25 @@ more_load ms ns u =
 
 module _ {sheet : List ℕ} {Γ : Meaning} {table : List TreeEntry} {whole : List Note} {left : ℕ} where
   -- the expression that ended is too heavy
-  pub ended_heavy : {fs : List WalkFrame} (w v : State) (p : ℕ) (u : Ty) (h : Ending sheet Γ table whole left fs w p u) → v.store.heavy ≡ true → 8192 < weigh (types h.notes) + weight u
-      → (gs : List WalkFrame) → Stands sheet Γ table whole left gs v
-  ended_heavy w v p u h e l gs = go h.goes
+  pub ended_heavy : {fs : List WalkFrame} {w : State} {p : ℕ} {u : Ty} (h : Ending sheet Γ table whole left fs w p u) → 8192 < weigh (types h.notes) + weight u → 8192 < weigh (types whole)
+  ended_heavy {fs} {w} {p} {u} h l = go h.goes
     where
-      go : {fs : List WalkFrame} → Going sheet Γ table whole left fs ((p, u) ∷ h.operands) (h.notes ++ has u ∷ []) → Stands sheet Γ table whole left gs v
-      go (going {rest = rest} o all enough small brief) = too_heavy e (subst (λ ns. 8192 < weigh (types ns)) all (omega (arith, more_load h.notes rest u)))
+      go : {fs : List WalkFrame} → Going sheet Γ table whole left fs ((p, u) ∷ h.operands) (h.notes ++ has u ∷ []) → 8192 < weigh (types whole)
+      go (going {rest = rest} o all enough small brief) = subst (λ ns. 8192 < weigh (types ns)) all (omega (arith, more_load h.notes rest u))
 
   -- or it is kept
-  pub ended_kept : {fs : List WalkFrame} (w v : State) (p : ℕ) (u : Ty) (m : Made) (h : Ending sheet Γ table whole left fs w p u) → InHand w.store u (Some m)
+  pub ended_kept : {fs : List WalkFrame} (w v : State) (p : ℕ) (u : Ty) (m : Made) (h : Ending sheet Γ table whole left fs w p u) → InHand w.store u m
       → KeptType w.store m u (types h.notes) v.store → (length (held w.operators) < room w.operators → held v.operators ≡ Operand p m.entry ∷ held w.operators)
       → room v.operators ≡ room w.operators → v.frames ≡ w.frames → v.findings ≡ w.findings → Goes sheet Γ table whole left fs v
   ended_kept {fs} w v p u m h i k push space frames findings = record {
     notes = h.notes ++ has u ∷ [];
     operands = (p, u) ∷ h.operands;
-    light = k.heavy ∙ h.light;
     tells = subst (λ f. Tells f (conditions (h.notes ++ has u ∷ []))) (sym findings) (subst (Tells w.findings) (sym (conditions_append h.notes (has u ∷ []) ∙ append-nil (conditions h.notes))) h.tells);
     tabled = subst (Tabled v.store) (sym (types_append h.notes (has u ∷ []))) k.tabled;
     holds = subst (λ n. Operands (entries v.store) n (held v.operators) ((p, u) ∷ h.operands)) (sym k.used)
         (subst (λ gs. Operands (entries v.store) m.used gs ((p, u) ∷ h.operands)) (sym (push (omega (arith, room_for h.goes, operands_length h.holds, h.rooms.operators))))
-        (one_operand (lower_only (entries w.store) (entries v.store) m.used m.entry u (λ j q. sym (k.kept j q)) i.0) h.formed
-        (operands_moved m.used i.1 (λ j q. k.kept j (omega (arith, i.1))) h.holds)));
+        (one_operand (lower_only (entries w.store) (entries v.store) m.used m.entry u (λ j q. sym (k.kept j q)) i.holds) h.formed
+        (operands_moved m.used i.more (λ j q. k.kept j (omega (arith, i.more))) h.holds)));
     rooms = record { frames = subst (λ f. 4096 ≤ room f) (sym frames) h.rooms.frames; operators = omega (arith, space, h.rooms.operators) };
     goes = h.goes;
   }
@@ -83,7 +89,6 @@ module _ {sheet : List ℕ} {Γ : Meaning} {table : List TreeEntry} {whole : Lis
 pub record Finishing (sheet : List ℕ) (Γ : Meaning) (table : List TreeEntry) (whole : List Note) (left : ℕ) (fs : List WalkFrame) (w : State) (gs : List OperatorEntry) (p : ℕ) (u : Ty) (cs : List Condition) : Type 0 where
   pub notes : List Note
   pub operands : List Opd
-  pub light : w.store.heavy ≡ false
   pub tells : Tells w.findings (conditions notes)
   pub tabled : Tabled w.store (types notes)
   pub holds : Operands (entries w.store) w.store.used gs operands
@@ -106,13 +111,12 @@ module _ {sheet : List ℕ} {Γ : Meaning} {table : List TreeEntry} {whole : Lis
       omega arith
 
   -- once its conditions are asked and its type is in hand, it has ended
-  pub finished : (w v : State) (gs : List OperatorEntry) (p : ℕ) (u : Ty) (cs : List Condition) (m : Option Made) → Finishing sheet Γ table whole left fs w gs p u cs
+  pub finished : (w v : State) (gs : List OperatorEntry) (p : ℕ) (u : Ty) (cs : List Condition) (m : Result Made TooHeavy) → Finishing sheet Γ table whole left fs w gs p u cs
       → held v.operators ≡ gs → room v.operators ≡ room w.operators → v.frames ≡ w.frames → Asks w.findings cs v.findings → Ready w.store v.store u m
       → Ending sheet Γ table whole left fs v p u
   finished w v gs p u cs m h taken space frames ask ready = record {
     notes = h.notes ++ asked cs;
     operands = h.operands;
-    light = ready.heavy ∙ h.light;
     tells = subst (Tells v.findings) (sym (conditions_append h.notes (asked cs) ∙ ap (λ ds. conditions h.notes ++ ds) (asked_conditions cs))) (ask (conditions h.notes) (few_asked h.notes cs u h.goes) h.tells);
     tabled = subst (Tabled v.store) (sym (types_append h.notes (asked cs) ∙ (ap (λ ts. types h.notes ++ ts) (asked_types cs) ∙ append-nil (types h.notes)))) (tabled_ready h.tabled ready);
     holds = subst (λ l. Operands (entries v.store) v.store.used l h.operands) (sym taken)
@@ -121,6 +125,17 @@ module _ {sheet : List ℕ} {Γ : Meaning} {table : List TreeEntry} {whole : Lis
     formed = h.formed;
     goes = subst (Going sheet Γ table whole left fs ((p, u) ∷ h.operands)) (ap (λ ns. h.notes ++ ns) (ends_asked cs u) ∙ sym (append_assoc h.notes (asked cs) (has u ∷ []))) h.goes;
   }
+
+  -- or there is no room for its type
+  pub finished_heavy : {w : State} {r : Store} {gs : List OperatorEntry} {p : ℕ} {u : Ty} {cs : List Condition} {e : TooHeavy} → Finishing sheet Γ table whole left fs w gs p u cs → Ready w.store r u (Err e) → 8192 < weigh (types whole)
+  finished_heavy {w} {r} {gs} {p} {u} {cs} h ready = go h.goes
+    where
+      go : Going sheet Γ table whole left fs ((p, u) ∷ h.operands) (h.notes ++ ends cs u) → 8192 < weigh (types whole)
+      go (going {rest = rest} o all enough small brief) =
+          let parts = ap (λ ns. h.notes ++ ns) (ends_asked cs u) ∙ sym (append_assoc h.notes (asked cs) (has u ∷ [])) in
+          let before = types_append h.notes (asked cs) ∙ (ap (λ ts. types h.notes ++ ts) (asked_types cs) ∙ append-nil (types h.notes)) in
+          subst (λ ns. 8192 < weigh (types ns)) (ap (λ ns. ns ++ rest) (sym parts) ∙ all)
+          (omega (arith, more_load (h.notes ++ asked cs) rest u, ap weigh before, h.tabled.load, ready.load, ready.in_hand))
 
 -- the operands of a frame, taken off the stack
 pub record OneTaken (es : List TypeEntry) (used : ℕ) (gs : List OperatorEntry) (p : ℕ) (t : Ty) (vs : List Opd) : Type 0 where
@@ -181,7 +196,6 @@ module _ (sheet : List ℕ) (Γ : Meaning) (table : List TreeEntry) (whole : Lis
         finishing = record {
           notes = g.notes;
           operands = a.4;
-          light = g.light;
           tells = g.tells;
           tabled = g.tabled;
           holds = subst (λ l. Operands (entries w.store) w.store.used l a.4) (sym k.2) o.rest;
@@ -223,7 +237,6 @@ module _ (sheet : List ℕ) (Γ : Meaning) (table : List TreeEntry) (whole : Lis
         finishing = record {
           notes = g.notes;
           operands = d.6;
-          light = g.light;
           tells = g.tells;
           tabled = g.tabled;
           holds = subst (λ x. Operands (entries w.store) w.store.used x d.6) (sym l.2) r.rest;
@@ -270,7 +283,6 @@ module _ (sheet : List ℕ) (Γ : Meaning) (table : List TreeEntry) (whole : Lis
         finishing = record {
           notes = g.notes;
           operands = d.7;
-          light = g.light;
           tells = g.tells;
           tabled = g.tabled;
           holds = subst (λ x. Operands (entries w.store) w.store.used x d.7) (sym l.2) r.rest;

@@ -1,5 +1,5 @@
 -- How the tables of a check stand for what it owes. No public contract cites it. Assumes nothing.
-use Rattle.std.specs.Prelude.{◌≡◌, ℕ, suc, ◌+◌, ◌<◌, ◌≤◌, Bool, true, false, List, [], ◌∷◌, ◌++◌, length, Option}
+use Rattle.std.specs.Prelude.{◌≡◌, ℕ, suc, ◌+◌, ◌<◌, ◌≤◌, List, [], ◌∷◌, ◌++◌, reverse, length, Ok, Err, Result}
 use Rattle.stack.specs.declared.Stack.{Stack}
 use Rattle.stack.specs.Items.{held, room}
 use Rattle.types.specs.declared.entries.TypeEntry.{TypeEntry}
@@ -19,6 +19,7 @@ use Rattle.parser.specs.Table.{tree_at}
 use Rattle.checker.specs.declared.finding.Finding.{Finding}
 use Rattle.checker.specs.declared.first.First.{First}
 use Rattle.checker.specs.declared.store.Store.{Store}
+use Rattle.checker.specs.declared.store.TooHeavy.{TooHeavy}
 use Rattle.checker.specs.declared.walk.Walk.{Walk}
 use Rattle.checker.specs.declared.walk.Operand.{Operand as Popped}
 use Rattle.checker.specs.Conditions.{Condition}
@@ -48,8 +49,8 @@ abbrev pub state : Walk → First Finding → Store → State
 state w f s = record { frames = w.frames; operators = w.operators; findings = f; store = s }
 
 -- what was lent is the same
-abbrev pub Lent : First Finding → Store → First Finding → Store → Type 0
-Lent f s g r = (g.slots.ghost_name ≡ f.slots.ghost_name) × (r.entries.ghost_name ≡ s.entries.ghost_name)
+abbrev pub Lent : State → State → Type 0
+Lent w v = (v.findings.slots.ghost_name ≡ w.findings.slots.ghost_name) × (v.store.entries.ghost_name ≡ w.store.entries.ghost_name)
 
 -- the findings of the conditions are kept
 pub record Tells (f : First Finding) (cs : List Condition) : Type 0 where
@@ -70,7 +71,6 @@ module _ (sheet : List ℕ) (Γ : Meaning) (table : List TreeEntry) (whole : Lis
   pub record Goes (fs : List WalkFrame) (w : State) : Type 0 where
     pub notes : List Note
     pub operands : List Opd
-    pub light : w.store.heavy ≡ false
     pub tells : Tells w.findings (conditions notes)
     pub tabled : Tabled w.store (types notes)
     pub holds : Operands (entries w.store) w.store.used (held w.operators) operands
@@ -81,7 +81,6 @@ module _ (sheet : List ℕ) (Γ : Meaning) (table : List TreeEntry) (whole : Lis
   pub record Ending (fs : List WalkFrame) (w : State) (p : ℕ) (u : Ty) : Type 0 where
     pub notes : List Note
     pub operands : List Opd
-    pub light : w.store.heavy ≡ false
     pub tells : Tells w.findings (conditions notes)
     pub tabled : Tabled w.store (types notes)
     pub holds : Operands (entries w.store) w.store.used (held w.operators) operands
@@ -89,50 +88,43 @@ module _ (sheet : List ℕ) (Γ : Meaning) (table : List TreeEntry) (whole : Lis
     pub formed : InForm u
     pub goes : Going sheet Γ table whole left fs ((p, u) ∷ operands) (notes ++ has u ∷ [])
 
-  -- the same, or the load of what is noted is too high
-  pub data Stands (fs : List WalkFrame) (w : State) : Type 0 where
-    too_heavy : w.store.heavy ≡ true → 8192 < weigh (types whole) → Stands fs w
-    goes_on : Goes fs w → Stands fs w
+  -- the walk goes on with the frames that wait, or the load of what is noted is too high
+  abbrev pub Stands : State → Result (Unit {0}) TooHeavy → Type 0
+  Stands w (Ok _) = Goes (held w.frames) w
+  Stands w (Err e) = 8192 < weigh (types whole)
 
--- an expression has ended, where that is what is owed
-abbrev pub Ends : Walk → Store → ℕ → Option Made → Walk → Store → Type 0
-Ends w s p m v r =
-    (sheet : List ℕ) (Γ : Meaning) (table : List TreeEntry) (whole : List Note) (left : ℕ) (f : First Finding) (u : Ty) →
-    Ending sheet Γ table whole left (held w.frames) (state w f s) p u → InHand s u m → Stands sheet Γ table whole left (held v.frames) (state v f r)
+-- the expression at p has ended with the type in hand, where that is what is owed
+pub record Ends (w : Walk) (s : Store) (p : ℕ) (m : Made) (v : Walk) (t : Store) (r : Result (Unit {0}) TooHeavy) : Type 0 where
+  pub lent : t.entries.ghost_name ≡ s.entries.ghost_name
+  pub ends : (sheet : List ℕ) (Γ : Meaning) (table : List TreeEntry) (whole : List Note) (left : ℕ) (f : First Finding) (u : Ty) →
+      Ending sheet Γ table whole left (held w.frames) (state w f s) p u → InHand s u m → Stands sheet Γ table whole left (state v f t) r
 
 -- the frame f has been seen to
-abbrev pub Onward : List ℕ → Meaning → List TreeEntry → WalkFrame → State → State → Type 0
-Onward sheet Γ table f w v =
-    (whole : List Note) (left : ℕ) → Sound Γ → Goes sheet Γ table whole (suc left) (f ∷ held w.frames) w → Stands sheet Γ table whole left (held v.frames) v
+pub record Onward (sheet : List ℕ) (Γ : Meaning) (table : List TreeEntry) (f : WalkFrame) (w v : State) (r : Result (Unit {0}) TooHeavy) : Type 0 where
+  pub lent : Lent w v
+  pub onward : (whole : List Note) (left : ℕ) → Sound Γ → Goes sheet Γ table whole (suc left) (f ∷ held w.frames) w → Stands sheet Γ table whole left v r
 
--- the frames xs were put on top
+-- the frames xs were put on top, one after the other
 pub record Pushed (w : Walk) (xs : List WalkFrame) (v : Walk) : Type 0 where
-  pub frames : length (held w.frames) + length xs ≤ room w.frames → held v.frames ≡ xs ++ held w.frames
+  pub frames : length (held w.frames) + length xs ≤ room w.frames → held v.frames ≡ reverse xs ++ held w.frames
   pub space : room v.frames ≡ room w.frames
-  pub operators : v.operators ≡ w.operators
+  pub rest : v ≡ record w { frames = v.frames }
 
 -- the same of a frame that goes by no table
-abbrev pub OnwardAny : WalkFrame → State → State → Type 0
-OnwardAny f w v = (sheet : List ℕ) (Γ : Meaning) (table : List TreeEntry) → Onward sheet Γ table f w v
+abbrev pub OnwardAny : WalkFrame → State → State → Result (Unit {0}) TooHeavy → Type 0
+OnwardAny f w v r = (sheet : List ℕ) (Γ : Meaning) (table : List TreeEntry) → Onward sheet Γ table f w v r
 
 -- the token l at p has been visited, where the tree has it as the expression at an index
-abbrev pub VisitsToken : List ℕ → Meaning → Leaf → ℕ → ℕ → State → State → Type 0
-VisitsToken sheet Γ l p n w v =
-    (table : List TreeEntry) (i : ℕ) → tree_at table i ≡ entry.Leaf l p n → Onward sheet Γ table (Expression i) w v
+pub record VisitsToken (sheet : List ℕ) (Γ : Meaning) (l : Leaf) (p n : ℕ) (w v : State) (r : Result (Unit {0}) TooHeavy) : Type 0 where
+  pub lent : Lent w v
+  pub visits : (table : List TreeEntry) (i : ℕ) → tree_at table i ≡ entry.Leaf l p n → Onward sheet Γ table (Expression i) w v r
 
 -- all is noted, or its load is too high
-pub data Told (whole : List Note) (w : State) : Type 0 where
-  told_heavy : w.store.heavy ≡ true → 8192 < weigh (types whole) → Told whole w
-  told_all : w.store.heavy ≡ false → Tells w.findings (conditions whole) → Tabled w.store (types whole) → Told whole w
-
--- a step was made, or r says that there was none to make
-abbrev pub AfterStep : List ℕ → Meaning → List TreeEntry → List Note → ℕ → State → Bool → Type 0
-AfterStep sheet Γ table whole left v true = Stands sheet Γ table whole left (held v.frames) v
-AfterStep sheet Γ table whole left v false = Told whole v
-
-abbrev pub Steps : List ℕ → Meaning → List TreeEntry → State → State → Bool → Type 0
-Steps sheet Γ table w v r = (whole : List Note) (left : ℕ) → Sound Γ → Stands sheet Γ table whole (suc left) (held w.frames) w → AfterStep sheet Γ table whole left v r
+abbrev pub Told : List Note → State → Result (Unit {0}) TooHeavy → Type 0
+Told whole w (Ok _) = Tells w.findings (conditions whole) × Tabled w.store (types whole)
+Told whole w (Err e) = 8192 < weigh (types whole)
 
 -- from frames that owe them in at most 8,192 steps, the notes come to be told
-abbrev pub Runs : List ℕ → Meaning → List TreeEntry → State → State → Type 0
-Runs sheet Γ table w v = (whole : List Note) → Sound Γ → Stands sheet Γ table whole 8192 (held w.frames) w → Told whole v
+pub record Runs (sheet : List ℕ) (Γ : Meaning) (table : List TreeEntry) (w v : State) (r : Result (Unit {0}) TooHeavy) : Type 0 where
+  pub lent : Lent w v
+  pub runs : (whole : List Note) → Sound Γ → Goes sheet Γ table whole 8192 (held w.frames) w → Told whole v r

@@ -27,8 +27,7 @@ pub fn ask_fits(findings: &mut First<Finding>, store: &Store, v: Operand, asked:
     ensures lent { findings.new.slots.ghost_name ≡ findings.old.slots.ghost_name }
     ensures asked { AsksFits findings.old store.now v asked findings.new }
 {
-    let entries = &*store.entries;
-    let met = meets(entries, store.used, v.entry, 0, asked);
+    let met = meets(store.entries, store.used, v.entry, 0, asked);
     ask(findings, met, Kind::Clash, v.place);
 }
 
@@ -37,8 +36,7 @@ fn ask_number_or_string(findings: &mut First<Finding>, store: &Store, v: Operand
     ensures lent { findings.new.slots.ghost_name ≡ findings.old.slots.ghost_name }
     ensures asked { AsksEither findings.old store.now v findings.new }
 {
-    let entries = &*store.entries;
-    let met = meets_number_or_string(entries, store.used, v.entry);
+    let met = meets_number_or_string(store.entries, store.used, v.entry);
     ask(findings, met, Kind::Clash, v.place);
 }
 
@@ -47,8 +45,7 @@ fn ask_comparable(findings: &mut First<Finding>, store: &Store, left: Operand, r
     ensures lent { findings.new.slots.ghost_name ≡ findings.old.slots.ghost_name }
     ensures asked { AsksCompare findings.old store.now left right findings.new }
 {
-    let entries = &*store.entries;
-    let met = comparable(entries, store.used, left.entry, right.entry);
+    let met = comparable(store.entries, store.used, left.entry, right.entry);
     ask(findings, met, Kind::Clash, right.place);
 }
 

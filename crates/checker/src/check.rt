@@ -8,9 +8,8 @@ use crate::finding::{BLANK, Finding};
 use crate::first::{First, blank_out};
 use crate::proper::proper;
 use crate::stage::Checked;
-use crate::steps::run_steps;
-use crate::store::{Store, TYPES};
-use crate::walk::Walk;
+use crate::store::{Store, TYPES, TooHeavy};
+use crate::walk::{Source, Walk};
 use lexer::reasons::Reason;
 use lexer::refusal::Refusal;
 use parser::reading::Read;
@@ -21,32 +20,22 @@ use types::entries::TypeEntry;
 
 const ENTRIES: usize = 4096;
 
-// What a walk over the whole tree found.
-#[derive(Clone, Copy)]
-struct Walked {
-    count: usize,
-    expressions: usize,
-    used: usize,
-    heavy: bool,
-}
-
 // Walks over the statement at an index, if there is one, and those before it.
 fn walk_over<'a, R: Register>(
-    sheet: &[u8],
-    tree: &[TreeEntry],
+    source: &Source<R>,
     last: Option<usize>,
-    names: &R,
     operators: &'a mut [OperatorEntry],
     frames: &'a mut [WalkFrame],
     types: &mut [TypeEntry],
     findings: &mut [Finding],
-) -> Walked
-    ensures { Walks sheet.now (R.Register.meaning names.now) tree.now last (length operators.old) (length frames.old) (length types.old) findings.old result findings.new types.new }
+) -> Result<Checked, TooHeavy>
+    ensures { Walks source.now.sheet.now (R.Register.meaning source.now.names.now) source.now.tree.now last (length operators.old) (length frames.old) (length types.old) findings.old result findings.new types.new }
 {
-    let mut room = [TypeEntry::Unused; 128];
-    let frames = Stack::new(frames);
-    let operators = Stack::new(operators);
-    let mut w = Walk { frames, operators };
+    let mut w = Walk {
+        frames: Stack::new(frames),
+        operators: Stack::new(operators),
+        room: [TypeEntry::Unused; 128],
+    };
     let mut found = First {
         slots: findings,
         count: 0,
@@ -56,18 +45,10 @@ fn walk_over<'a, R: Register>(
         used: 0,
         count: 0,
         load: 0,
-        heavy: false,
     };
     w.frames.push(WalkFrame::Statements(last));
-    run_steps(
-        sheet, tree, &mut w, &mut found, &mut store, names, &mut room,
-    );
-    Walked {
-        count: found.count,
-        expressions: store.count,
-        used: store.used,
-        heavy: store.heavy,
-    }
+    w.run(source, &mut found, &mut store)?;
+    Ok(Checked::new(found.count, store.count, store.used))
 }
 
 // Whether a table is under its size.
@@ -120,25 +101,22 @@ pub fn check<F: Register, S: Register>(
             reading,
         ));
     }
-    let w = walk_over(
+    let source = Source {
         sheet,
         tree,
-        reading.last(),
-        first,
-        operators,
-        frames,
-        types,
-        findings,
-    );
-    if w.heavy {
-        blank_out(findings, BLANK);
-        return Err((
-            Refusal {
-                reason: Reason::HeavySheet,
-                place: 0,
-            },
-            reading,
-        ));
+        names: first,
+    };
+    match walk_over(&source, reading.last(), operators, frames, types, findings) {
+        Ok(checked) => Ok(checked),
+        Err(TooHeavy) => {
+            blank_out(findings, BLANK);
+            Err((
+                Refusal {
+                    reason: Reason::HeavySheet,
+                    place: 0,
+                },
+                reading,
+            ))
+        }
     }
-    Ok(Checked::new(w.count, w.expressions, w.used))
 }

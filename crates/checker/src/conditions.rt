@@ -8,50 +8,33 @@ use types::meeting::meets;
 pub fn meets_number_or_string(types: &[TypeEntry], n: usize, e: TypeEntry) -> bool
     ensures { SaysNumberOrString types.now n e result }
 {
-    if meets(types, n, e, 0, TypeEntry::Number) {
-        return true;
-    }
-    meets(types, n, e, 0, TypeEntry::String)
+    meets(types, n, e, 0, TypeEntry::Number) || meets(types, n, e, 0, TypeEntry::String)
 }
 
 // Whether two types both meet a third one, which has no parts.
 fn both_meet(types: &[TypeEntry], n: usize, a: TypeEntry, b: TypeEntry, e: TypeEntry) -> bool
     ensures { SaysBothMeet types.now n a b e result }
 {
-    if !meets(types, n, a, 0, e) {
-        return false;
-    }
-    meets(types, n, b, 0, e)
+    meets(types, n, a, 0, e) && meets(types, n, b, 0, e)
 }
 
 // Whether two types have values that can be compared: two numbers or two strings.
 pub fn comparable(types: &[TypeEntry], n: usize, a: TypeEntry, b: TypeEntry) -> bool
     ensures { SaysCompare types.now n a b result }
 {
-    if both_meet(types, n, a, b, TypeEntry::Number) {
-        return true;
-    }
-    both_meet(types, n, a, b, TypeEntry::String)
+    both_meet(types, n, a, b, TypeEntry::Number) || both_meet(types, n, a, b, TypeEntry::String)
 }
 
 // Whether the type is `number` or a number literal.
 pub fn is_numeric(e: TypeEntry) -> bool
     ensures { SaysNumeric e result }
 {
-    match e {
-        TypeEntry::Number => true,
-        TypeEntry::NumberLiteral { .. } => true,
-        _ => false,
-    }
+    matches!(e, TypeEntry::Number | TypeEntry::NumberLiteral { .. })
 }
 
 // Whether the type is `string` or a string literal.
 pub fn is_textual(e: TypeEntry) -> bool
     ensures { SaysTextual e result }
 {
-    match e {
-        TypeEntry::String => true,
-        TypeEntry::StringLiteral { .. } => true,
-        _ => false,
-    }
+    matches!(e, TypeEntry::String | TypeEntry::StringLiteral { .. })
 }

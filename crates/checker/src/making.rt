@@ -3,117 +3,82 @@ ghost use Rattle.std.specs.Prelude.{◌≡◌};
 ghost use Rattle.checker.specs.Makings.{MakesFound, MakesInfix, MakesLiteral, MakesNumber, MakesPrefix};
 
 use crate::rules::Rule;
-use crate::store::{Store, brought, spelled, united};
+use crate::store::{Store, TooHeavy};
 use building::literals::number_of;
 use building::unions::Made;
 use parser::symbols::{Leaf, Prefix};
 use registers::found::Told;
 use types::entries::TypeEntry;
 
-// The type of an operator before its operand.
-pub fn prefix_made(store: &Store, op: Prefix) -> Option<Made>
-    ensures { MakesPrefix store.now op result }
-{
-    let used = store.used;
-    match op {
-        Prefix::Not => Some(Made {
-            entry: TypeEntry::Boolean,
-            used,
-        }),
-        Prefix::Negate => Some(Made {
-            entry: TypeEntry::Number,
-            used,
-        }),
-        Prefix::Typeof => Some(Made {
-            entry: TypeEntry::String,
-            used,
-        }),
+impl<'a> Store<'a> {
+    // A type whose parts stand in the table already.
+    fn plain(&self, entry: TypeEntry) -> Made
+        ensures { result ≡ record { entry = entry; used = self.now.used } }
+    {
+        Made {
+            entry,
+            used: self.used,
+        }
     }
-}
 
-// The type that the rule of an operator between its operands gives.
-pub fn infix_made(store: &mut Store, rule: Rule, right: TypeEntry) -> Option<Made>
-    ensures lent { store.new.entries.ghost_name ≡ store.old.entries.ghost_name }
-    ensures makes { MakesInfix store.old rule right store.new result }
-{
-    let used = store.used;
-    match rule {
-        Rule::Arithmetic => Some(Made {
-            entry: TypeEntry::Number,
-            used,
-        }),
-        Rule::Comparison => Some(Made {
-            entry: TypeEntry::Boolean,
-            used,
-        }),
-        Rule::Logical => united(store, TypeEntry::Boolean, right),
-        Rule::LeftNumber => Some(Made {
-            entry: TypeEntry::Number,
-            used,
-        }),
-        Rule::LeftString => Some(Made {
-            entry: TypeEntry::String,
-            used,
-        }),
-        Rule::RightNumber => Some(Made {
-            entry: TypeEntry::Number,
-            used,
-        }),
-        Rule::RightString => Some(Made {
-            entry: TypeEntry::String,
-            used,
-        }),
-        Rule::BothOpen => united(store, TypeEntry::Number, TypeEntry::String),
+    // The type of an operator before its operand.
+    pub fn prefix_made(&self, op: Prefix) -> Made
+        ensures { MakesPrefix self.now op result }
+    {
+        match op {
+            Prefix::Not => self.plain(TypeEntry::Boolean),
+            Prefix::Negate => self.plain(TypeEntry::Number),
+            Prefix::Typeof => self.plain(TypeEntry::String),
+        }
     }
-}
 
-// The type of a number as it is written.
-fn number_made(used: usize, text: &[u8]) -> Option<Made>
-    ensures { MakesNumber used text.now result }
-{
-    let Some(entry) = number_of(text) else {
-        return None;
-    };
-    Some(Made { entry, used })
-}
-
-// The type of a token that is no name.
-pub fn literal_made(store: &mut Store, leaf: Leaf, text: &[u8]) -> Option<Made>
-    ensures lent { store.new.entries.ghost_name ≡ store.old.entries.ghost_name }
-    ensures makes { MakesLiteral store.old leaf text.now store.new result }
-{
-    let used = store.used;
-    match leaf {
-        Leaf::Number => number_made(used, text),
-        Leaf::Text => spelled(store, text),
-        Leaf::True => Some(Made {
-            entry: TypeEntry::True,
-            used,
-        }),
-        Leaf::False => Some(Made {
-            entry: TypeEntry::False,
-            used,
-        }),
-        Leaf::Null => Some(Made {
-            entry: TypeEntry::Null,
-            used,
-        }),
-        Leaf::Name => None,
+    // The type that the rule of an operator between its operands gives.
+    pub fn infix_made(&mut self, rule: Rule, right: TypeEntry) -> Result<Made, TooHeavy>
+        ensures lent { self.new.entries.ghost_name ≡ self.old.entries.ghost_name }
+        ensures makes { MakesInfix self.old rule right self.new result }
+    {
+        match rule {
+            Rule::Arithmetic | Rule::LeftNumber | Rule::RightNumber => {
+                Ok(self.plain(TypeEntry::Number))
+            }
+            Rule::LeftString | Rule::RightString => Ok(self.plain(TypeEntry::String)),
+            Rule::Comparison => Ok(self.plain(TypeEntry::Boolean)),
+            Rule::Logical => self.united(TypeEntry::Boolean, right),
+            Rule::BothOpen => self.united(TypeEntry::Number, TypeEntry::String),
+        }
     }
-}
 
-// The type of a name, by what a register told of it.
-pub fn found_made(store: &mut Store, found: Option<Told>, room: &[TypeEntry]) -> Option<Made>
-    ensures lent { store.new.entries.ghost_name ≡ store.old.entries.ghost_name }
-    ensures makes { MakesFound store.old found room.now store.new result }
-{
-    let plain = Made {
-        entry: TypeEntry::Any,
-        used: store.used,
-    };
-    match found {
-        None => Some(plain),
-        Some(Told::Scheme(_)) => Some(plain),
-        Some(Told::Typed(made)) => brought(store, room, made),
+    // The type of a number as it is written.
+    fn number_made(&self, text: &[u8]) -> Result<Made, TooHeavy>
+        ensures { MakesNumber self.now text.now result }
+    {
+        let entry = number_of(text).ok_or(TooHeavy)?;
+        Ok(self.plain(entry))
+    }
+
+    // The type of a token that is no name.
+    pub fn literal_made(&mut self, leaf: Leaf, text: &[u8]) -> Result<Made, TooHeavy>
+        ensures lent { self.new.entries.ghost_name ≡ self.old.entries.ghost_name }
+        ensures makes { MakesLiteral self.old leaf text.now self.new result }
+    {
+        match leaf {
+            Leaf::Number => self.number_made(text),
+            Leaf::Text => self.spelled(text),
+            Leaf::True => Ok(self.plain(TypeEntry::True)),
+            Leaf::False => Ok(self.plain(TypeEntry::False)),
+            Leaf::Null => Ok(self.plain(TypeEntry::Null)),
+            Leaf::Name => Err(TooHeavy),
+        }
+    }
+
+    // The type of a name, by what a register told of it.
+    pub fn found_made(&mut self, found: Option<Told>, room: &[TypeEntry]) -> Result<Made, TooHeavy>
+        ensures lent { self.new.entries.ghost_name ≡ self.old.entries.ghost_name }
+        ensures makes { MakesFound self.old found room.now self.new result }
+    {
+        match found {
+            None | Some(Told::Scheme(_)) => Ok(self.plain(TypeEntry::Any)),
+            Some(Told::Typed(made)) => self.brought(room, made),
+        }
     }
 }

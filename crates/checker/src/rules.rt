@@ -43,17 +43,15 @@ pub fn rule_of(op: Operator, left: TypeEntry, right: TypeEntry) -> Rule
 {
     match op {
         Operator::Add => sum_rule(left, right),
-        Operator::Subtract => Rule::Arithmetic,
-        Operator::Multiply => Rule::Arithmetic,
-        Operator::Divide => Rule::Arithmetic,
-        Operator::Remainder => Rule::Arithmetic,
-        Operator::And => Rule::Logical,
-        Operator::Or => Rule::Logical,
-        Operator::Less => Rule::Comparison,
-        Operator::Greater => Rule::Comparison,
-        Operator::AtMost => Rule::Comparison,
-        Operator::AtLeast => Rule::Comparison,
-        Operator::Same => Rule::Comparison,
-        Operator::Differs => Rule::Comparison,
+        Operator::Subtract | Operator::Multiply | Operator::Divide | Operator::Remainder => {
+            Rule::Arithmetic
+        }
+        Operator::And | Operator::Or => Rule::Logical,
+        Operator::Less
+        | Operator::Greater
+        | Operator::AtMost
+        | Operator::AtLeast
+        | Operator::Same
+        | Operator::Differs => Rule::Comparison,
     }
 }

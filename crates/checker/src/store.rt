@@ -1,6 +1,6 @@
 // The types of the expressions so far, in the type table: the parts of types stand from the bottom up, the types of the
 // expressions from entry 8,191 down, by their numbers.
-ghost use Rattle.std.specs.Prelude.{◌≡◌, ℕ, ◌+◌, ◌-◌, ◌≤◌};
+ghost use Rattle.std.specs.Prelude.{◌≡◌, ℕ, ◌+◌, ◌-◌, ◌≤◌, length};
 ghost use Rattle.building.specs.Made.{SaysWeight};
 ghost use Rattle.checker.specs.Stores.{Brings, KeepsType, Spells, Unites};
 
@@ -13,6 +13,10 @@ use types::entries::TypeEntry;
 // The entries of the type table that a check asks for.
 pub const TYPES: usize = 8192;
 
+// That the weights of the types of a sheet are over 8,192 together.
+#[derive(Clone, Copy)]
+pub struct TooHeavy;
+
 #[derive(Drop)]
 pub struct Store<'a> {
     pub entries: &'a mut [TypeEntry],
@@ -22,74 +26,69 @@ pub struct Store<'a> {
     pub count: usize,
     // the weights of their types together
     pub load: usize,
-    // whether the load is over 8,192
-    pub heavy: bool,
 }
 
-// How many entries parts may use.
-fn limit_of(count: usize, all: usize) -> usize
-    ensures within { result ≤ all }
-    ensures limit { count ≤ 8192 → 8192 ≤ all → result ≡ 8192 - count }
-{
-    if count > TYPES || all < TYPES {
-        return 0;
+impl<'a> Store<'a> {
+    // How many entries parts may use.
+    fn limit(&self) -> usize
+        ensures within { result ≤ length self.now.entries.now }
+        ensures limit { self.now.count ≤ 8192 → 8192 ≤ length self.now.entries.now → result ≡ 8192 - self.now.count }
+    {
+        if self.count > TYPES || self.entries.len() < TYPES {
+            return 0;
+        }
+        TYPES - self.count
     }
-    TYPES - count
-}
 
-// The union of two types.
-pub fn united(store: &mut Store, a: TypeEntry, b: TypeEntry) -> Option<Made>
-    ensures lent { store.new.entries.ghost_name ≡ store.old.entries.ghost_name }
-    ensures united { Unites store.old a b store.new result }
-{
-    let used = store.used;
-    let limit = limit_of(store.count, store.entries.len());
-    union_of_two(&mut store.entries[0..limit], used, a, b)
-}
-
-// The type of the string that a text writes.
-pub fn spelled(store: &mut Store, text: &[u8]) -> Option<Made>
-    ensures lent { store.new.entries.ghost_name ≡ store.old.entries.ghost_name }
-    ensures spelled { Spells store.old text.now store.new result }
-{
-    let used = store.used;
-    let limit = limit_of(store.count, store.entries.len());
-    string_of(&mut store.entries[0..limit], used, text)
-}
-
-// The type that a register told, whose parts stand in other entries.
-pub fn brought(store: &mut Store, others: &[TypeEntry], made: Made) -> Option<Made>
-    ensures lent { store.new.entries.ghost_name ≡ store.old.entries.ghost_name }
-    ensures brought { Brings store.old others.now made store.new result }
-{
-    let used = store.used;
-    let limit = limit_of(store.count, store.entries.len());
-    copied(&mut store.entries[0..limit], used, others, made)
-}
-
-// The weight of a type in hand, or 8,193 where it is more.
-fn weight_of(store: &Store, made: Made) -> usize
-    ensures { SaysWeight store.now.entries.now made.used made.entry 8193 result }
-{
-    let entries = &*store.entries;
-    weight_within(entries, made.used, made.entry, TYPES + 1)
-}
-
-// Keeps a type in hand as that of the next expression; false where the load is then over 8,192.
-pub fn keep(store: &mut Store, made: Made) -> bool
-    ensures lent { store.new.entries.ghost_name ≡ store.old.entries.ghost_name }
-    ensures kept { KeepsType store.old made store.new result }
-{
-    let weight = weight_of(store, made);
-    let load = store.load;
-    let count = store.count;
-    if load > TYPES || weight > TYPES - load || count >= TYPES || store.entries.len() < TYPES {
-        store.heavy = true;
-        return false;
+    // The union of two types.
+    pub fn united(&mut self, a: TypeEntry, b: TypeEntry) -> Result<Made, TooHeavy>
+        ensures lent { self.new.entries.ghost_name ≡ self.old.entries.ghost_name }
+        ensures united { Unites self.old a b self.new result }
+    {
+        let limit = self.limit();
+        union_of_two(&mut self.entries[..limit], self.used, a, b).ok_or(TooHeavy)
     }
-    store.used = made.used;
-    store.count = count + 1;
-    store.load = load + weight;
-    store.entries[TYPES - 1 - count] = made.entry;
-    true
+
+    // The type of the string that a text writes.
+    pub fn spelled(&mut self, text: &[u8]) -> Result<Made, TooHeavy>
+        ensures lent { self.new.entries.ghost_name ≡ self.old.entries.ghost_name }
+        ensures spelled { Spells self.old text.now self.new result }
+    {
+        let limit = self.limit();
+        string_of(&mut self.entries[..limit], self.used, text).ok_or(TooHeavy)
+    }
+
+    // The type that a register told, whose parts stand in other entries.
+    pub fn brought(&mut self, others: &[TypeEntry], made: Made) -> Result<Made, TooHeavy>
+        ensures lent { self.new.entries.ghost_name ≡ self.old.entries.ghost_name }
+        ensures brought { Brings self.old others.now made self.new result }
+    {
+        let limit = self.limit();
+        copied(&mut self.entries[..limit], self.used, others, made).ok_or(TooHeavy)
+    }
+
+    // The weight of a type in hand, or 8,193 where it is more.
+    fn weight_of(&self, made: Made) -> usize
+        ensures { SaysWeight self.now.entries.now made.used made.entry 8193 result }
+    {
+        weight_within(self.entries, made.used, made.entry, TYPES + 1)
+    }
+
+    // Keeps a type in hand as that of the next expression.
+    pub fn keep(&mut self, made: Made) -> Result<(), TooHeavy>
+        ensures lent { self.new.entries.ghost_name ≡ self.old.entries.ghost_name }
+        ensures kept { KeepsType self.old made self.new result }
+    {
+        let weight = self.weight_of(made);
+        let load = self.load;
+        let count = self.count;
+        if load > TYPES || weight > TYPES - load || count >= TYPES || self.entries.len() < TYPES {
+            return Err(TooHeavy);
+        }
+        self.used = made.used;
+        self.count = count + 1;
+        self.load = load + weight;
+        self.entries[TYPES - 1 - count] = made.entry;
+        Ok(())
+    }
 }

@@ -1,5 +1,5 @@
 // Visiting the entries of the tree.
-ghost use Rattle.std.specs.Prelude.{◌≡◌, ℕ, List, take, drop, ◌≢◌};
+ghost use Rattle.std.specs.Prelude.{◌≡◌, ℕ, List, Ok, take, drop, ◌≢◌};
 ghost use Rattle.registers.specs.Meaning.{Meaning};
 ghost use Rattle.parser.specs.Table.{tree_at};
 ghost use Rattle.parser.specs.declared.symbols.Leaf.TheVariants.{Name};
@@ -8,43 +8,35 @@ ghost use Rattle.checker.specs.declared.finding.Finding.{Finding as AnyFinding};
 ghost use Rattle.checker.specs.declared.first.First.{First as AnyFirst};
 ghost use Rattle.checker.specs.declared.store.Store.{Store as AnyStore};
 ghost use Rattle.checker.specs.Askings.{AsksBound, SaysBound};
-ghost use Rattle.checker.specs.Standing.{Lent, Onward, VisitsToken, state};
+ghost use Rattle.checker.specs.Standing.{Onward, VisitsToken, state};
 
 use crate::asking::ask;
 use crate::finding::{Finding, Kind};
 use crate::first::First;
-use crate::making::{found_made, literal_made};
-use crate::store::Store;
-use crate::walk::{Walk, ended, wait_four, wait_three, wait_two};
+use crate::store::{Store, TooHeavy};
+use crate::walk::{Source, Walk};
 use parser::symbols::Leaf;
 use parser::tree::{TreeEntry, WalkFrame};
 use registers::found::Told;
 use registers::register::Register;
-use types::entries::TypeEntry;
 
-// The entry at an index; past the end it is blank.
-fn tree_at(tree: &[TreeEntry], i: usize) -> TreeEntry
-    ensures { result ≡ tree_at tree.now i }
-{
-    if i < tree.len() {
-        tree[i]
-    } else {
-        TreeEntry::Blank
+impl<'a, R> Source<'a, R> {
+    // The entry of the tree at an index; past the end it is blank.
+    fn entry(&self, i: usize) -> TreeEntry
+        ensures { result ≡ tree_at self.now.tree.now i }
+    {
+        self.tree.get(i).copied().unwrap_or(TreeEntry::Blank)
     }
-}
 
-// The bytes of a sheet from a place on, as far as there are any.
-fn part_of(sheet: &[u8], place: usize, len: usize) -> &[u8]
-    ensures { result.now ≡ take len (drop place sheet.now) }
-{
-    if place >= sheet.len() {
-        return &sheet[sheet.len()..];
+    // The bytes of the sheet from a place on, as far as there are any.
+    fn part(&self, place: usize, len: usize) -> &[u8]
+        ensures { result.now ≡ take len (drop place self.now.sheet.now) }
+    {
+        match self.sheet.get(place..) {
+            Some(rest) => rest.get(..len).unwrap_or(rest),
+            None => &[],
+        }
     }
-    let rest = &sheet[place..];
-    if len >= rest.len() {
-        return rest;
-    }
-    &rest[0..len]
 }
 
 // Whether a register told a binding.
@@ -62,124 +54,111 @@ fn ask_bound(findings: &mut First<Finding>, place: usize, found: Option<Told>)
     ask(findings, is_bound(found), Kind::UnknownName, place);
 }
 
-// A name: asks the register for its binding.
-fn visit_name<R: Register>(
-    sheet: &[u8],
-    w: &mut Walk,
-    findings: &mut First<Finding>,
-    store: &mut Store,
-    names: &R,
-    room: &mut [TypeEntry; 128],
-    place: usize,
-    len: usize,
-)
-    ensures lent { Lent findings.old store.old findings.new store.new }
-    ensures visits { VisitsToken sheet.now (R.Register.meaning names.now) Name place len (state w.old findings.old store.old) (state w.new findings.new store.new) }
-{
-    let found = names.ask(part_of(sheet, place, len), room);
-    ask_bound(findings, place, found);
-    let made = found_made(store, found, room);
-    ended(w, store, place, made);
-}
-
-// A token that is no name.
-fn visit_literal(
-    sheet: &[u8],
-    w: &mut Walk,
-    store: &mut Store,
-    leaf: Leaf,
-    place: usize,
-    len: usize,
-)
-    ensures lent { store.new.entries.ghost_name ≡ store.old.entries.ghost_name }
-    ensures visits { (Γ : Meaning) (f : AnyFirst AnyFinding) → (leaf ≢ Name) → VisitsToken sheet.now Γ leaf place len (state w.old f store.old) (state w.new f store.new) }
-{
-    let made = literal_made(store, leaf, part_of(sheet, place, len));
-    ended(w, store, place, made);
-}
-
-// A token.
-fn visit_leaf<R: Register>(
-    sheet: &[u8],
-    w: &mut Walk,
-    findings: &mut First<Finding>,
-    store: &mut Store,
-    names: &R,
-    room: &mut [TypeEntry; 128],
-    leaf: Leaf,
-    place: usize,
-    len: usize,
-)
-    ensures lent { Lent findings.old store.old findings.new store.new }
-    ensures visits { VisitsToken sheet.now (R.Register.meaning names.now) leaf place len (state w.old findings.old store.old) (state w.new findings.new store.new) }
-{
-    match leaf {
-        Leaf::Name => visit_name(sheet, w, findings, store, names, room, place, len),
-        _ => visit_literal(sheet, w, store, leaf, place, len),
+impl<'a> Walk<'a> {
+    // A name: asks the register for its binding.
+    fn visit_name<R: Register>(
+        &mut self,
+        source: &Source<R>,
+        findings: &mut First<Finding>,
+        store: &mut Store,
+        place: usize,
+        len: usize,
+    ) -> Result<(), TooHeavy>
+        ensures { VisitsToken source.now.sheet.now (R.Register.meaning source.now.names.now) Name place len (state self.old findings.old store.old) (state self.new findings.new store.new) result }
+    {
+        let found = source.names.ask(source.part(place, len), &mut self.room);
+        ask_bound(findings, place, found);
+        let made = store.found_made(found, &self.room)?;
+        self.ended(store, place, made)
     }
-}
 
-// The expression at an index: a token ends at once, other expressions wait for their parts.
-pub fn visit_expression<R: Register>(
-    sheet: &[u8],
-    tree: &[TreeEntry],
-    w: &mut Walk,
-    findings: &mut First<Finding>,
-    store: &mut Store,
-    names: &R,
-    room: &mut [TypeEntry; 128],
-    i: usize,
-)
-    ensures lent { Lent findings.old store.old findings.new store.new }
-    ensures onward { Onward sheet.now (R.Register.meaning names.now) tree.now (Expression i) (state w.old findings.old store.old) (state w.new findings.new store.new) }
-{
-    match tree_at(tree, i) {
-        TreeEntry::Leaf { leaf, place, len } => {
-            visit_leaf(sheet, w, findings, store, names, room, leaf, place, len)
+    // A token that is no name.
+    fn visit_literal<R>(
+        &mut self,
+        source: &Source<R>,
+        store: &mut Store,
+        leaf: Leaf,
+        place: usize,
+        len: usize,
+    ) -> Result<(), TooHeavy>
+        ensures { (Γ : Meaning) (f : AnyFirst AnyFinding) → (leaf ≢ Name) → VisitsToken source.now.sheet.now Γ leaf place len (state self.old f store.old) (state self.new f store.new) result }
+    {
+        let made = store.literal_made(leaf, source.part(place, len))?;
+        self.ended(store, place, made)
+    }
+
+    // A token.
+    fn visit_leaf<R: Register>(
+        &mut self,
+        source: &Source<R>,
+        findings: &mut First<Finding>,
+        store: &mut Store,
+        leaf: Leaf,
+        place: usize,
+        len: usize,
+    ) -> Result<(), TooHeavy>
+        ensures { VisitsToken source.now.sheet.now (R.Register.meaning source.now.names.now) leaf place len (state self.old findings.old store.old) (state self.new findings.new store.new) result }
+    {
+        match leaf {
+            Leaf::Name => self.visit_name(source, findings, store, place, len),
+            _ => self.visit_literal(source, store, leaf, place, len),
         }
-        TreeEntry::Unary {
-            operator,
-            place,
-            operand,
-        } => wait_two(
-            w,
-            WalkFrame::Unary { operator, place },
-            WalkFrame::Expression(operand),
-        ),
-        TreeEntry::Binary {
-            operator,
-            left,
-            right,
-        } => wait_three(
-            w,
-            WalkFrame::Binary(operator),
-            WalkFrame::Expression(right),
-            WalkFrame::Expression(left),
-        ),
-        TreeEntry::Choice { test, then, other } => wait_four(
-            w,
-            WalkFrame::Choice,
-            WalkFrame::Expression(other),
-            WalkFrame::Expression(then),
-            WalkFrame::Expression(test),
-        ),
-        _ => {}
     }
-}
 
-// The statement at an index, if there is one, and those before it, which come first.
-pub fn visit_statements(tree: &[TreeEntry], w: &mut Walk, last: Option<usize>)
-    ensures { (sheet : List ℕ) (Γ : Meaning) (f : AnyFirst AnyFinding) (s : AnyStore) → Onward sheet Γ tree.now (Statements last) (state w.old f s) (state w.new f s) }
-{
-    let Some(i) = last else {
-        return;
-    };
-    match tree_at(tree, i) {
-        TreeEntry::Statement { before, expression } => wait_two(
-            w,
-            WalkFrame::Expression(expression),
-            WalkFrame::Statements(before),
-        ),
-        _ => {}
+    // The expression at an index: a token ends at once, other expressions wait for their parts.
+    pub fn visit_expression<R: Register>(
+        &mut self,
+        source: &Source<R>,
+        findings: &mut First<Finding>,
+        store: &mut Store,
+        i: usize,
+    ) -> Result<(), TooHeavy>
+        ensures { Onward source.now.sheet.now (R.Register.meaning source.now.names.now) source.now.tree.now (Expression i) (state self.old findings.old store.old) (state self.new findings.new store.new) result }
+    {
+        match source.entry(i) {
+            TreeEntry::Leaf { leaf, place, len } => {
+                return self.visit_leaf(source, findings, store, leaf, place, len);
+            }
+            TreeEntry::Unary {
+                operator,
+                place,
+                operand,
+            } => self.wait(&[
+                WalkFrame::Unary { operator, place },
+                WalkFrame::Expression(operand),
+            ]),
+            TreeEntry::Binary {
+                operator,
+                left,
+                right,
+            } => self.wait(&[
+                WalkFrame::Binary(operator),
+                WalkFrame::Expression(right),
+                WalkFrame::Expression(left),
+            ]),
+            TreeEntry::Choice { test, then, other } => self.wait(&[
+                WalkFrame::Choice,
+                WalkFrame::Expression(other),
+                WalkFrame::Expression(then),
+                WalkFrame::Expression(test),
+            ]),
+            _ => {}
+        }
+        Ok(())
+    }
+
+    // The statement at an index, if there is one, and those before it, which come first.
+    pub fn visit_statements<R>(&mut self, source: &Source<R>, last: Option<usize>)
+        ensures { (sheet : List ℕ) (Γ : Meaning) (f : AnyFirst AnyFinding) (s : AnyStore) → Onward sheet Γ source.now.tree.now (Statements last) (state self.old f s) (state self.new f s) (Ok tt) }
+    {
+        let Some(i) = last else {
+            return;
+        };
+        if let TreeEntry::Statement { before, expression } = source.entry(i) {
+            self.wait(&[
+                WalkFrame::Expression(expression),
+                WalkFrame::Statements(before),
+            ]);
+        }
     }
 }

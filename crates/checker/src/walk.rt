@@ -1,26 +1,38 @@
 // The walk of a check over the tree, by frames.
-ghost use Rattle.std.specs.Prelude.{◌≡◌, [], ◌∷◌};
+ghost use Rattle.std.specs.Prelude.{◌≡◌};
 ghost use Rattle.stack.specs.Items.{held, room};
-ghost use Rattle.checker.specs.Standing.{Ends, Lent, OnwardAny, Pushed, Takes, state};
+ghost use Rattle.checker.specs.Standing.{Ends, OnwardAny, Pushed, Takes, state};
 ghost use Rattle.parser.specs.declared.tree.WalkFrame.TheVariants.{Binary, Choice, Unary};
 
 use crate::asking::{ask_fits, ask_infix, ask_prefix};
 use crate::finding::Finding;
 use crate::first::First;
-use crate::making::{infix_made, prefix_made};
 use crate::rules::rule_of;
-use crate::store::{Store, keep, united};
+use crate::store::{Store, TooHeavy};
 use building::unions::Made;
 use parser::symbols::{Operator, Prefix};
-use parser::tree::{OperatorEntry, WalkFrame};
+use parser::tree::{OperatorEntry, TreeEntry, WalkFrame};
 use stack::Stack;
 use types::entries::TypeEntry;
 
-// The stacks: what is still to be done, and the finished operands.
+// What a walk reads: a sheet, its tree, and the register of its names.
+#[derive(Drop)]
+pub struct Source<'a, R> {
+    pub sheet: &'a [u8],
+    pub tree: &'a [TreeEntry],
+    pub names: &'a R,
+}
+
+// The stacks of a walk. The findings and the types are lent beside it, since a caller learns what a slice holds in the
+// end only where no more than one struct stands around it.
 #[derive(Drop)]
 pub struct Walk<'a> {
+    // what is still to be done
     pub frames: Stack<'a, WalkFrame>,
+    // the finished operands
     pub operators: Stack<'a, OperatorEntry>,
+    // the parts of the type that a register told last
+    pub room: [TypeEntry; 128],
 }
 
 // A finished operand: its place and its type.
@@ -41,93 +53,79 @@ fn take(operators: &mut Stack<OperatorEntry>) -> Operand
     ensures space { room operators.new ≡ room operators.old }
 {
     match operators.pop() {
-        Some(top) => match top {
-            OperatorEntry::Operand { place, entry } => Operand { place, entry },
-            _ => NO_OPERAND,
-        },
-        None => NO_OPERAND,
+        Some(OperatorEntry::Operand { place, entry }) => Operand { place, entry },
+        _ => NO_OPERAND,
     }
 }
 
-// An expression has ended, with its type in hand, or with none where there is no room for it.
-pub fn ended(w: &mut Walk, store: &mut Store, place: usize, made: Option<Made>)
-    ensures lent { store.new.entries.ghost_name ≡ store.old.entries.ghost_name }
-    ensures ends { Ends w.old store.old place made w.new store.new }
-{
-    match made {
-        Some(m) => {
-            if keep(store, m) {
-                w.operators.push(OperatorEntry::Operand {
-                    place,
-                    entry: m.entry,
-                });
-            }
+impl<'a> Walk<'a> {
+    // Frames that wait, the last one on top.
+    pub fn wait(&mut self, frames: &[WalkFrame])
+        ensures { Pushed self.old frames.now self.new }
+    {
+        for frame in frames {
+            self.frames.push(*frame);
         }
-        None => store.heavy = true,
     }
-}
 
-// Frames that wait, the last one on top.
-pub fn wait_two(w: &mut Walk, a: WalkFrame, b: WalkFrame)
-    ensures { Pushed w.old (b ∷ a ∷ []) w.new }
-{
-    w.frames.push(a);
-    w.frames.push(b);
-}
+    // An expression has ended, with its type in hand.
+    pub fn ended(&mut self, store: &mut Store, place: usize, made: Made) -> Result<(), TooHeavy>
+        ensures { Ends self.old store.old place made self.new store.new result }
+    {
+        store.keep(made)?;
+        self.operators.push(OperatorEntry::Operand {
+            place,
+            entry: made.entry,
+        });
+        Ok(())
+    }
 
-pub fn wait_three(w: &mut Walk, a: WalkFrame, b: WalkFrame, c: WalkFrame)
-    ensures { Pushed w.old (c ∷ b ∷ a ∷ []) w.new }
-{
-    wait_two(w, a, b);
-    w.frames.push(c);
-}
+    // An operator whose operand is finished.
+    pub fn finish_unary(
+        &mut self,
+        findings: &mut First<Finding>,
+        store: &mut Store,
+        op: Prefix,
+        place: usize,
+    ) -> Result<(), TooHeavy>
+        ensures { OnwardAny (Unary op place) (state self.old findings.old store.old) (state self.new findings.new store.new) result }
+    {
+        let v = take(&mut self.operators);
+        ask_prefix(findings, store, op, v);
+        let made = store.prefix_made(op);
+        self.ended(store, place, made)
+    }
 
-pub fn wait_four(w: &mut Walk, a: WalkFrame, b: WalkFrame, c: WalkFrame, d: WalkFrame)
-    ensures { Pushed w.old (d ∷ c ∷ b ∷ a ∷ []) w.new }
-{
-    wait_two(w, a, b);
-    wait_two(w, c, d);
-}
+    // An operator whose operands are finished.
+    pub fn finish_binary(
+        &mut self,
+        findings: &mut First<Finding>,
+        store: &mut Store,
+        op: Operator,
+    ) -> Result<(), TooHeavy>
+        ensures { OnwardAny (Binary op) (state self.old findings.old store.old) (state self.new findings.new store.new) result }
+    {
+        let right = take(&mut self.operators);
+        let left = take(&mut self.operators);
+        let rule = rule_of(op, left.entry, right.entry);
+        ask_infix(findings, store, rule, left, right);
+        let made = store.infix_made(rule, right.entry)?;
+        self.ended(store, left.place, made)
+    }
 
-// An operator whose operand is finished.
-pub fn finish_unary(
-    w: &mut Walk,
-    findings: &mut First<Finding>,
-    store: &mut Store,
-    op: Prefix,
-    place: usize,
-)
-    ensures lent { Lent findings.old store.old findings.new store.new }
-    ensures onward { OnwardAny (Unary op place) (state w.old findings.old store.old) (state w.new findings.new store.new) }
-{
-    let v = take(&mut w.operators);
-    ask_prefix(findings, store, op, v);
-    let made = prefix_made(store, op);
-    ended(w, store, place, made);
-}
-
-// An operator whose operands are finished.
-pub fn finish_binary(w: &mut Walk, findings: &mut First<Finding>, store: &mut Store, op: Operator)
-    ensures lent { Lent findings.old store.old findings.new store.new }
-    ensures onward { OnwardAny (Binary op) (state w.old findings.old store.old) (state w.new findings.new store.new) }
-{
-    let right = take(&mut w.operators);
-    let left = take(&mut w.operators);
-    let rule = rule_of(op, left.entry, right.entry);
-    ask_infix(findings, store, rule, left, right);
-    let made = infix_made(store, rule, right.entry);
-    ended(w, store, left.place, made);
-}
-
-// A choice whose three parts are finished.
-pub fn finish_choice(w: &mut Walk, findings: &mut First<Finding>, store: &mut Store)
-    ensures lent { Lent findings.old store.old findings.new store.new }
-    ensures onward { OnwardAny Choice (state w.old findings.old store.old) (state w.new findings.new store.new) }
-{
-    let other = take(&mut w.operators);
-    let then = take(&mut w.operators);
-    let test = take(&mut w.operators);
-    ask_fits(findings, store, test, TypeEntry::Boolean);
-    let made = united(store, then.entry, other.entry);
-    ended(w, store, test.place, made);
+    // A choice whose three parts are finished.
+    pub fn finish_choice(
+        &mut self,
+        findings: &mut First<Finding>,
+        store: &mut Store,
+    ) -> Result<(), TooHeavy>
+        ensures { OnwardAny Choice (state self.old findings.old store.old) (state self.new findings.new store.new) result }
+    {
+        let other = take(&mut self.operators);
+        let then = take(&mut self.operators);
+        let test = take(&mut self.operators);
+        ask_fits(findings, store, test, TypeEntry::Boolean);
+        let made = store.united(then.entry, other.entry)?;
+        self.ended(store, test.place, made)
+    }
 }

@@ -1,7 +1,7 @@
 use Rattle.std.proofs.Common.{sym, refl, subst}
 use Rattle.parser.specs.Table.{AllProper, Listed}
 use Rattle.checker.specs.Checks.{short_table, damaged, too_heavy}
-use Rattle.checker.proofs.Checking.{refuted, enough, heavy_walk, checked_as}
+use Rattle.checker.proofs.Checking.{refuted, enough, checked_as}
 use Rattle.checker.proofs.check.check.Goals as goal
 
 pub returns-then-is_short : goal.returns-then-is_short
@@ -14,24 +14,23 @@ returns-then-not-proper g c = (
   c.blank_out.ensures,
 )
 
-pub returns-then-w : goal.returns-then-w
-returns-then-w g c =
+pub returns-in-Err : goal.returns-in-Err
+returns-in-Err g c =
     let long = refuted _ c.is_short.ensures c.if-is_short.false in
     let e = enough _ long in (
       too_heavy long (subst (AllProper _ _) c.used.ensures (c.proper.ensures.0 c.if-not-proper.false))
-          (λ ss ns rep typed. heavy_walk c.if-w.true
-          (c.walk_over-w.ensures ss ns (subst (λ i. Listed c.args.tree.now i ss) (sym c.last.ensures) rep.listed) rep.small typed (g.F.Register.sound c.args.first.now) e.0 e.1 e.2 c.blank_out.ensures)),
+          (λ ss ns rep typed. c.in-Err.ensures ss ns (subst (λ i. Listed c.args.tree.now i ss) (sym c.last.ensures) rep.listed) rep.small typed (g.F.Register.sound c.args.first.now) e.0 e.1 e.2 c.blank_out.ensures),
       refl,
-      c.blank_out-then-w.ensures,
+      c.blank_out-in-Err.ensures,
     )
 
-pub returns : goal.returns
-returns g c =
+pub returns-in-Ok : goal.returns-in-Ok
+returns-in-Ok g c =
     let long = refuted _ c.is_short.ensures c.if-is_short.false in
     let e = enough _ long in
     let sound = g.F.Register.sound c.args.first.now in (
       long,
       subst (AllProper _ _) c.used.ensures (c.proper.ensures.0 c.if-not-proper.false),
-      λ ss rep. checked_as _ _ ss _ _ _ c.if-w.false sound rep.written
-          (λ ns typed. c.walk_over-w.ensures ss ns (subst (λ i. Listed c.args.tree.now i ss) (sym c.last.ensures) rep.listed) rep.small typed sound e.0 e.1 e.2 c.blank_out.ensures) _ c.new.ensures,
+      λ ss rep. checked_as _ _ ss _ _ _ sound rep.written
+          (λ ns typed. c.in-Ok.ensures ss ns (subst (λ i. Listed c.args.tree.now i ss) (sym c.last.ensures) rep.listed) rep.small typed sound e.0 e.1 e.2 c.blank_out.ensures),
     )

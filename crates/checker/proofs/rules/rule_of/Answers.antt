@@ -1,40 +1,33 @@
-use Rattle.std.proofs.Common.{sym, subst}
-use Rattle.checker.specs.Rules as rules
+use Rattle.std.proofs.Common.{◌≡◌, ◌⊎◌, inl, inr, sym, subst}
+use Rattle.parser.specs.declared.symbols.Operator.{Operator}
+use Rattle.parser.specs.declared.symbols.Operator.TheVariants.{Multiply, Divide, Remainder, Subtract, Less, Greater, AtMost, AtLeast, Same, Differs, And, Or}
+use Rattle.checker.specs.Rules.{Arithmetic, by_minus, by_times, by_over, by_remainder, Comparison, by_less, by_greater, by_at_most, by_at_least, by_same, by_differs, Logical, by_and, by_or}
 use Rattle.checker.proofs.Ruling.{by_arithmetic, by_comparison, by_logical}
 use Rattle.checker.proofs.rules.rule_of.Goals as goal
 
+is_arithmetic : {op : Operator} → (op ≡ Subtract) ⊎ ((op ≡ Multiply) ⊎ ((op ≡ Divide) ⊎ (op ≡ Remainder))) → Arithmetic op
+is_arithmetic (inl e) = subst Arithmetic (sym e) by_minus
+is_arithmetic (inr (inl e)) = subst Arithmetic (sym e) by_times
+is_arithmetic (inr (inr (inl e))) = subst Arithmetic (sym e) by_over
+is_arithmetic (inr (inr (inr e))) = subst Arithmetic (sym e) by_remainder
+
+is_logical : {op : Operator} → (op ≡ And) ⊎ (op ≡ Or) → Logical op
+is_logical (inl e) = subst Logical (sym e) by_and
+is_logical (inr e) = subst Logical (sym e) by_or
+
+is_comparison : {op : Operator} → (op ≡ Less) ⊎ ((op ≡ Greater) ⊎ ((op ≡ AtMost) ⊎ ((op ≡ AtLeast) ⊎ ((op ≡ Same) ⊎ (op ≡ Differs))))) → Comparison op
+is_comparison (inl e) = subst Comparison (sym e) by_less
+is_comparison (inr (inl e)) = subst Comparison (sym e) by_greater
+is_comparison (inr (inr (inl e))) = subst Comparison (sym e) by_at_most
+is_comparison (inr (inr (inr (inl e)))) = subst Comparison (sym e) by_at_least
+is_comparison (inr (inr (inr (inr (inl e))))) = subst Comparison (sym e) by_same
+is_comparison (inr (inr (inr (inr (inr e))))) = subst Comparison (sym e) by_differs
+
 pub returns-in-Subtract : goal.returns-in-Subtract
-returns-in-Subtract c es n p q s t u cs a b r = by_arithmetic (subst rules.Arithmetic (sym c.in-Subtract.is) rules.by_minus) r
-
-pub returns-in-Multiply : goal.returns-in-Multiply
-returns-in-Multiply c es n p q s t u cs a b r = by_arithmetic (subst rules.Arithmetic (sym c.in-Multiply.is) rules.by_times) r
-
-pub returns-in-Divide : goal.returns-in-Divide
-returns-in-Divide c es n p q s t u cs a b r = by_arithmetic (subst rules.Arithmetic (sym c.in-Divide.is) rules.by_over) r
-
-pub returns-in-Remainder : goal.returns-in-Remainder
-returns-in-Remainder c es n p q s t u cs a b r = by_arithmetic (subst rules.Arithmetic (sym c.in-Remainder.is) rules.by_remainder) r
+returns-in-Subtract c es n p q s t u cs a b r = by_arithmetic (is_arithmetic c.in-Subtract.is) r
 
 pub returns-in-And : goal.returns-in-And
-returns-in-And c es n p q s t u cs a b r = by_logical (subst rules.Logical (sym c.in-And.is) rules.by_and) r
-
-pub returns-in-Or : goal.returns-in-Or
-returns-in-Or c es n p q s t u cs a b r = by_logical (subst rules.Logical (sym c.in-Or.is) rules.by_or) r
+returns-in-And c es n p q s t u cs a b r = by_logical (is_logical c.in-And.is) r
 
 pub returns-in-Less : goal.returns-in-Less
-returns-in-Less c es n p q s t u cs a b r = by_comparison (subst rules.Comparison (sym c.in-Less.is) rules.by_less) r
-
-pub returns-in-Greater : goal.returns-in-Greater
-returns-in-Greater c es n p q s t u cs a b r = by_comparison (subst rules.Comparison (sym c.in-Greater.is) rules.by_greater) r
-
-pub returns-in-AtMost : goal.returns-in-AtMost
-returns-in-AtMost c es n p q s t u cs a b r = by_comparison (subst rules.Comparison (sym c.in-AtMost.is) rules.by_at_most) r
-
-pub returns-in-AtLeast : goal.returns-in-AtLeast
-returns-in-AtLeast c es n p q s t u cs a b r = by_comparison (subst rules.Comparison (sym c.in-AtLeast.is) rules.by_at_least) r
-
-pub returns-in-Same : goal.returns-in-Same
-returns-in-Same c es n p q s t u cs a b r = by_comparison (subst rules.Comparison (sym c.in-Same.is) rules.by_same) r
-
-pub returns-in-Differs : goal.returns-in-Differs
-returns-in-Differs c es n p q s t u cs a b r = by_comparison (subst rules.Comparison (sym c.in-Differs.is) rules.by_differs) r
+returns-in-Less c es n p q s t u cs a b r = by_comparison (is_comparison c.in-Less.is) r
