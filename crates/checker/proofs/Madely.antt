@@ -6,7 +6,7 @@ use Rattle.types.specs.Types.{Ty, any, number, number_literal, string, no_types,
 use Rattle.types.specs.declared.kinds.Kind.TheVariants.{Number, String}
 use Rattle.types.specs.Kinds.{number_kind, string_kind}
 use Rattle.types.specs.Table.{Is}
-use Rattle.building.specs.declared.unions.Made.{Made}
+use Rattle.types.specs.declared.entries.Root.{Root}
 use Rattle.building.specs.Unions.{UnionOf, union_more, brings_none, brings_itself, In, in_first, in_other, Precedes, order_none, order_more}
 use Rattle.building.specs.Literals.{Numeral, GivesNumber}
 use Rattle.building.proofs.Filled.{filled_none}
@@ -38,10 +38,10 @@ plain_ready s e t tabled h =
       in_hand = record { holds = h; more = omega arith; light = omega arith; within = omega (arith, tabled.light, tabled.within); filled = filled_none (entries s) s.used };
     }
 
-pub plain_as : (s : Store) {ts : List Ty} (e : TypeEntry) (t u : Ty) {m : Made} → m ≡ record { entry = e; used = s.used } → u ≡ t → Tabled s ts → Is (entries s) s.used e t → Ready s s u (Ok m)
+pub plain_as : (s : Store) {ts : List Ty} (e : TypeEntry) (t u : Ty) {m : Root} → m ≡ record { entry = e; used = s.used } → u ≡ t → Tabled s ts → Is (entries s) s.used e t → Ready s s u (Ok m)
 plain_as s e t u same q tabled h = subst (λ m. Ready s s u (Ok m)) (sym same) (subst (λ x. Ready s s x (Ok (record { entry = e; used = s.used }))) (sym q) (plain_ready s e t tabled h))
 
-pub ready_as : (s r : Store) (m : Result Made TooHeavy) {t u : Ty} → u ≡ t → Ready s r t m → Ready s r u m
+pub ready_as : (s r : Store) (m : Result Root TooHeavy) {t u : Ty} → u ≡ t → Ready s r t m → Ready s r u m
 ready_as s r m q h = subst (λ x. Ready s r x m) (sym q) h
 
 -- `number | string` is the union of its two members
@@ -53,7 +53,7 @@ both_kinds = union_more (brings_itself number_kind (brings_itself string_kind br
     first u (in_other i) = absurd (in_none i)
 
 -- a number as it is written
-pub number_ready : (s : Store) {ts : List Ty} (text : List ℕ) (e : TypeEntry) (d : Decimal) {m : Made} → m ≡ record { entry = e; used = s.used } → Tabled s ts → Numeral text d → GivesNumber text (Some e) → Ready s s (number_literal d) (Ok m)
+pub number_ready : (s : Store) {ts : List Ty} (text : List ℕ) (e : TypeEntry) (d : Decimal) {m : Root} → m ≡ record { entry = e; used = s.used } → Tabled s ts → Numeral text d → GivesNumber text (Some e) → Ready s s (number_literal d) (Ok m)
 number_ready s text e d same tabled n g =
     plain_as s e (number_literal d) (number_literal d) same refl tabled (subst (λ x. Is (entries s) s.used e (number_literal x)) (literal_laws.0 text g.number d g.numeral n) (g.holds (entries s) s.used))
 
@@ -70,12 +70,12 @@ as_literal sheet Γ p n text t cs {l} e same rule = subst (λ x. LiteralForm x t
 
 -- what a register told is no type, or a type
 
-pub told_any : (o : Option Binding) (found : Option Told) (room : List TypeEntry) → Tells o found room → ((m : Made) → found ≡ Some (Told.Typed m) → ⊥) → type_of o ≡ any
+pub told_any : (o : Option Binding) (found : Option Told) (room : List TypeEntry) → Tells o found room → ((m : Root) → found ≡ Some (Told.Typed m) → ⊥) → type_of o ≡ any
 told_any None found room h no-type = refl
 told_any (Some (scheme s)) found room h no-type = refl
 told_any (Some (typed t)) found room h no-type = absurd (no-type h.0 h.1)
 
-pub told_typed : (o : Option Binding) (found : Option Told) (m : Made) (room : List TypeEntry) → Tells o found room → found ≡ Some (Told.Typed m) → MadeIn room (type_of o) m
+pub told_typed : (o : Option Binding) (found : Option Told) (m : Root) (room : List TypeEntry) → Tells o found room → found ≡ Some (Told.Typed m) → MadeIn room (type_of o) m
 told_typed None found m room h e = let z : ◌≡◌ {A = ℕ} 0 1 = cc in absurd (omega arith)
 told_typed (Some (scheme s)) found m room h e = let z : ◌≡◌ {A = ℕ} 0 1 = cc in absurd (omega arith)
 told_typed (Some (typed t)) found m room h e = let same : h.0 ≡ m = cc in subst (MadeIn room t) same h.2

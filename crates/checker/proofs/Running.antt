@@ -10,6 +10,8 @@ use Rattle.registers.specs.Meaning.{Meaning}
 use Rattle.parser.specs.declared.reading.Read.{Read}
 use Rattle.parser.specs.declared.tree.TreeEntry.{TreeEntry}
 use Rattle.parser.specs.Syntax.{Expr}
+use Rattle.parser.specs.Lending.{Lent, sizes_of}
+use Rattle.parser.specs.declared.tables.Tables.{Tables}
 use Rattle.parser.specs.Reading as reading
 use Rattle.parser.specs.Reading.{Sizes, Short, Fault, Reads, Represents, Written}
 use Rattle.checker.specs.declared.calls.Call.{Call}
@@ -26,9 +28,17 @@ use Rattle.checker.specs.Checks.{CheckedAs, Refuses, Checks}
 use Rattle.checker.specs.Runs.{Readable, Law, AnswersTo, read_refused, too_heavy, checked, Answers, sheet_of, Left, nothing_left, checked_left, Lawful}
 use Rattle.checker.specs.Performing.{Performs, refusing, saying}
 
--- tables of the same sizes
-pub same_sizes : {a b c d a' b' c' d' : ℕ} → a ≡ a' → b ≡ b' → c ≡ c' → d ≡ d' → ◌≡◌ {A = Sizes} (record { of_tree = a; of_operators = b; of_frames = c; of_types = d }) (record { of_tree = a'; of_operators = b'; of_frames = c'; of_types = d' })
-same_sizes {a} {b} {c} {d} {a'} {b'} {c'} e f g h = ap (λ x. record { of_tree = x; of_operators = b; of_frames = c; of_types = d }) e ∙ (ap (λ x. record { of_tree = a'; of_operators = x; of_frames = c; of_types = d }) f ∙ (ap (λ x. record { of_tree = a'; of_operators = b'; of_frames = x; of_types = d }) g ∙ ap (λ x. record { of_tree = a'; of_operators = b'; of_frames = c'; of_types = x }) h))
+-- tables that are given back have their sizes
+pub same_sizes : {n m : ℕ} {t u : Tables} → n ≡ m → Lent t u → sizes_of n u ≡ sizes_of m t
+same_sizes e l = rw (e, l.operators.1, l.frames.1, l.types.1) refl
+
+-- tables that are given back, and then again
+pub lent_twice : {t u v : Tables} → Lent t u → Lent u v → Lent t v
+lent_twice a b = record {
+  operators = (b.operators.0 ∙ a.operators.0, b.operators.1 ∙ a.operators.1);
+  frames = (b.frames.0 ∙ a.frames.0, b.frames.1 ∙ a.frames.1);
+  types = (b.types.0 ∙ a.types.0, b.types.1 ∙ a.types.1);
+}
 
 pub performs_as : {s s' : Sizes} (Γ : Meaning) (sheet : List ℕ) (r : Result Checked Refused) (listed : List Finding) (es : List TypeEntry) → s ≡ s' → Performs s Γ sheet r listed es → Performs s' Γ sheet r listed es
 performs_as Γ sheet r listed es e p = subst (λ s. Performs s Γ sheet r listed es) e p

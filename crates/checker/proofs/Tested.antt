@@ -43,15 +43,15 @@ both_of_one : {s t : Ty} {v w : Value} → Belongs v s → Belongs w t → Compa
 both_of_one p q two_numbers = inl ((_, p, in_number), (_, q, in_number))
 both_of_one p q two_strings = inr ((_, p, in_string), (_, q, in_string))
 
-module _ {es : List TypeEntry} {n : ℕ} {a b : TypeEntry} where
-  pub two_meet_number : SaysBothMeet es n a b Number true → SaysCompare es n a b true
-  two_meet_number d le s t x y = says_yes (numbers_compare ((d le s t number x y is_number).0 refl))
+module _ {es : List TypeEntry} {n m : ℕ} {a b : TypeEntry} where
+  pub two_meet_number : SaysBothMeet es n a m b Number true → SaysCompare es n a m b true
+  two_meet_number d le lf s t x y = says_yes (numbers_compare ((d le lf s t number x y is_number).0 refl))
 
-  pub two_meet_string : {r : Bool} → SaysBothMeet es n a b Number false → SaysBothMeet es n a b String r → SaysCompare es n a b r
-  two_meet_string c d le s t x y =
-      let z = d le s t string x y is_string in (
+  pub two_meet_string : {r : Bool} → SaysBothMeet es n a m b Number false → SaysBothMeet es n a m b String r → SaysCompare es n a m b r
+  two_meet_string c d le lf s t x y =
+      let z = d le lf s t string x y is_string in (
         λ p. strings_compare (z.0 p),
-        λ m. ⊎_elim (λ f. absurd (refuted (c le s t number x y is_number) f)) (λ f. z.1 f) (both_of_one m.of_one m.of_other m.can),
+        λ m. ⊎_elim (λ f. absurd (refuted (c le lf s t number x y is_number) f)) (λ f. z.1 f) (both_of_one m.of_one m.of_other m.can),
       )
 
 -- `number` and number literals, `string` and string literals

@@ -16,13 +16,13 @@ StatementEntry e = (j : Option ℕ) × (k : ℕ) × (e ≡ Statement j k)
 abbrev pub SaysNumberOrString : List TypeEntry → ℕ → TypeEntry → Bool → Type 0
 SaysNumberOrString es n e r = n ≤ length es → (s : Ty) → Is es n e s → Decides r (Meet s number_or_string)
 
--- r says whether the types a and b, with their parts below n, both meet the type e, which has no parts
-abbrev pub SaysBothMeet : List TypeEntry → ℕ → TypeEntry → TypeEntry → TypeEntry → Bool → Type 0
-SaysBothMeet es n a b e r = n ≤ length es → (s t u : Ty) → Is es n a s → Is es n b t → Is es 0 e u → Decides r (Meet s u × Meet t u)
+-- r says whether the types a, with its parts below n, and b, with its parts below m, both meet the type e, which has no parts
+abbrev pub SaysBothMeet : List TypeEntry → ℕ → TypeEntry → ℕ → TypeEntry → TypeEntry → Bool → Type 0
+SaysBothMeet es n a m b e r = n ≤ length es → m ≤ length es → (s t u : Ty) → Is es n a s → Is es m b t → Is es 0 e u → Decides r (Meet s u × Meet t u)
 
--- r says whether the types a and b, with their parts below n, have values that can be compared
-abbrev pub SaysCompare : List TypeEntry → ℕ → TypeEntry → TypeEntry → Bool → Type 0
-SaysCompare es n a b r = n ≤ length es → (s t : Ty) → Is es n a s → Is es n b t → Decides r (Compare s t)
+-- r says whether the types a, with its parts below n, and b, with its parts below m, have values that can be compared
+abbrev pub SaysCompare : List TypeEntry → ℕ → TypeEntry → ℕ → TypeEntry → Bool → Type 0
+SaysCompare es n a m b r = n ≤ length es → m ≤ length es → (s t : Ty) → Is es n a s → Is es m b t → Decides r (Compare s t)
 
 -- r says whether the type of the entry e is `number` or a number literal
 abbrev pub SaysNumeric : TypeEntry → Bool → Type 0

@@ -5,7 +5,7 @@ use Rattle.stack.specs.Items.{held, room}
 use Rattle.types.specs.declared.entries.TypeEntry.{TypeEntry}
 use Rattle.types.specs.Types.{Ty}
 use Rattle.types.specs.Table.{Is}
-use Rattle.building.specs.declared.unions.Made.{Made}
+use Rattle.types.specs.declared.entries.Root.{Root}
 use Rattle.building.specs.Forms.{InForm}
 use Rattle.registers.specs.Meaning.{Meaning, Sound}
 use Rattle.parser.specs.declared.symbols.Leaf.{Leaf}
@@ -94,7 +94,7 @@ module _ (sheet : List ℕ) (Γ : Meaning) (table : List TreeEntry) (whole : Lis
   Stands w (Err e) = 8192 < weigh (types whole)
 
 -- the expression at p has ended with the type in hand, where that is what is owed
-pub record Ends (w : Walk) (s : Store) (p : ℕ) (m : Made) (v : Walk) (t : Store) (r : Result (Unit {0}) TooHeavy) : Type 0 where
+pub record Ends (w : Walk) (s : Store) (p : ℕ) (m : Root) (v : Walk) (t : Store) (r : Result (Unit {0}) TooHeavy) : Type 0 where
   pub lent : t.entries.ghost_name ≡ s.entries.ghost_name
   pub ends : (sheet : List ℕ) (Γ : Meaning) (table : List TreeEntry) (whole : List Note) (left : ℕ) (f : First Finding) (u : Ty) →
       Ending sheet Γ table whole left (held w.frames) (state w f s) p u → InHand s u m → Stands sheet Γ table whole left (state v f t) r

@@ -4,7 +4,7 @@ use Rattle.types.specs.declared.entries.TypeEntry.{TypeEntry}
 use Rattle.types.specs.Types.{Ty, any, string_literal, no_types, ◌and◌}
 use Rattle.types.specs.Values.{Text}
 use Rattle.types.specs.Table.{Is, entry_at}
-use Rattle.building.specs.declared.unions.Made.{Made}
+use Rattle.types.specs.declared.entries.Root.{Root}
 use Rattle.building.specs.Forms.{InForm}
 use Rattle.building.specs.Made.{Filled, Kept}
 use Rattle.building.specs.Unions.{UnionOf}
@@ -28,7 +28,7 @@ pub record Tabled (s : Store) (ts : List Ty) : Type 0 where
   pub filled : Filled (entries s) 0 s.used
 
 -- the type t is in hand, with its parts in the table
-pub record InHand (s : Store) (t : Ty) (m : Made) : Type 0 where
+pub record InHand (s : Store) (t : Ty) (m : Root) : Type 0 where
   pub holds : Is (entries s) m.used m.entry t
   pub more : s.used ≤ m.used
   pub light : m.used < s.used + weight t
@@ -36,12 +36,12 @@ pub record InHand (s : Store) (t : Ty) (m : Made) : Type 0 where
   pub filled : Filled (entries s) s.used m.used
 
 -- the answer: the type t in hand; or there is no room for it, and then the load is too high with it
-abbrev pub InHandOrHeavy : Store → Ty → Result Made TooHeavy → Type 0
+abbrev pub InHandOrHeavy : Store → Ty → Result Root TooHeavy → Type 0
 InHandOrHeavy s t (Ok m) = InHand s t m
 InHandOrHeavy s t (Err e) = 8192 < s.load + weight t
 
 -- s became r while the type t was made: nothing else was changed
-pub record Ready (s r : Store) (t : Ty) (m : Result Made TooHeavy) : Type 0 where
+pub record Ready (s r : Store) (t : Ty) (m : Result Root TooHeavy) : Type 0 where
   pub used : r.used ≡ s.used
   pub count : r.count ≡ s.count
   pub load : r.load ≡ s.load
@@ -51,29 +51,29 @@ pub record Ready (s r : Store) (t : Ty) (m : Result Made TooHeavy) : Type 0 wher
   pub in_hand : InHandOrHeavy r t m
 
 -- s became r while the union of the types a and b was made
-abbrev pub Unites : Store → TypeEntry → TypeEntry → Store → Result Made TooHeavy → Type 0
+abbrev pub Unites : Store → TypeEntry → TypeEntry → Store → Result Root TooHeavy → Type 0
 Unites s a b r m =
     (ts : List Ty) (t u v : Ty) → Tabled s ts → Is (entries s) s.used a t → Is (entries s) s.used b u → InForm t → InForm u → UnionOf (t and u and no_types) v
     → Ready s r v m
 
 -- the same for the string that a text writes
-abbrev pub Spells : Store → List ℕ → Store → Result Made TooHeavy → Type 0
+abbrev pub Spells : Store → List ℕ → Store → Result Root TooHeavy → Type 0
 Spells s text r m = (ts : List Ty) (t : Text) → Tabled s ts → SpelledString text t → Ready s r (string_literal t) m
 
 -- the same for a type whose parts stand in other entries, fewer than it weighs
-abbrev pub Brings : Store → List TypeEntry → Made → Store → Result Made TooHeavy → Type 0
+abbrev pub Brings : Store → List TypeEntry → Root → Store → Result Root TooHeavy → Type 0
 Brings s others made r m = (ts : List Ty) (t : Ty) → Tabled s ts → made.used ≤ length others → Filled others 0 made.used → made.used < weight t → Is others made.used made.entry t → Ready s r t m
 
 -- the type t in hand is kept as that of the next expression
-pub record KeptType (s : Store) (m : Made) (t : Ty) (ts : List Ty) (r : Store) : Type 0 where
+pub record KeptType (s : Store) (m : Root) (t : Ty) (ts : List Ty) (r : Store) : Type 0 where
   pub tabled : Tabled r (ts ++ t ∷ [])
   pub kept : Kept (entries s) (entries r) m.used
   pub used : r.used ≡ m.used
 
 -- r is s with it, or the load is too high with it
-abbrev pub KeptOrHeavy : Store → Made → Ty → List Ty → Store → Result (Unit {0}) TooHeavy → Type 0
+abbrev pub KeptOrHeavy : Store → Root → Ty → List Ty → Store → Result (Unit {0}) TooHeavy → Type 0
 KeptOrHeavy s m t ts r (Ok _) = KeptType s m t ts r
 KeptOrHeavy s m t ts r (Err e) = 8192 < weigh ts + weight t
 
-abbrev pub KeepsType : Store → Made → Store → Result (Unit {0}) TooHeavy → Type 0
+abbrev pub KeepsType : Store → Root → Store → Result (Unit {0}) TooHeavy → Type 0
 KeepsType s m r b = (ts : List Ty) (t : Ty) → Tabled s ts → InHand s t m → KeptOrHeavy s m t ts r b

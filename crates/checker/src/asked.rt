@@ -4,9 +4,9 @@ ghost use Rattle.types.specs.Table.{entry_at};
 ghost use Rattle.checker.specs.Orders.{HeadsInOrder, IsInOrder, NoUnit, Orderly, PartsInOrder, TypeTold};
 
 use crate::stage::Checked;
-use crate::store::TYPES;
 use lexer::reasons::Reason;
 use lexer::refusal::Refusal;
+use parser::tables::TYPES;
 use types::compare::run_below;
 use types::entries::TypeEntry;
 

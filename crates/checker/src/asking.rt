@@ -9,7 +9,7 @@ use crate::rules::Rule;
 use crate::store::Store;
 use crate::walk::Operand;
 use parser::symbols::Prefix;
-use types::entries::TypeEntry;
+use types::entries::{Root, TypeEntry};
 use types::meeting::meets;
 
 // A finding, where a condition is not met.
@@ -27,7 +27,11 @@ pub fn ask_fits(findings: &mut First<Finding>, store: &Store, v: Operand, asked:
     ensures lent { findings.new.slots.ghost_name ≡ findings.old.slots.ghost_name }
     ensures asked { AsksFits findings.old store.now v asked findings.new }
 {
-    let met = meets(store.entries, store.used, v.entry, 0, asked);
+    let asked = Root {
+        entry: asked,
+        used: 0,
+    };
+    let met = meets(store.entries, store.plain(v.entry), asked);
     ask(findings, met, Kind::Clash, v.place);
 }
 
@@ -36,7 +40,7 @@ fn ask_number_or_string(findings: &mut First<Finding>, store: &Store, v: Operand
     ensures lent { findings.new.slots.ghost_name ≡ findings.old.slots.ghost_name }
     ensures asked { AsksEither findings.old store.now v findings.new }
 {
-    let met = meets_number_or_string(store.entries, store.used, v.entry);
+    let met = meets_number_or_string(store.entries, store.plain(v.entry));
     ask(findings, met, Kind::Clash, v.place);
 }
 
@@ -45,7 +49,11 @@ fn ask_comparable(findings: &mut First<Finding>, store: &Store, left: Operand, r
     ensures lent { findings.new.slots.ghost_name ≡ findings.old.slots.ghost_name }
     ensures asked { AsksCompare findings.old store.now left right findings.new }
 {
-    let met = comparable(store.entries, store.used, left.entry, right.entry);
+    let met = comparable(
+        store.entries,
+        store.plain(left.entry),
+        store.plain(right.entry),
+    );
     ask(findings, met, Kind::Clash, right.place);
 }
 

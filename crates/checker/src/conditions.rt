@@ -1,28 +1,39 @@
-// Tests of conditions, over types in hand whose parts stand below an index of the type table.
+// Tests of conditions, over types in hand.
 ghost use Rattle.checker.specs.Entries.{SaysBothMeet, SaysCompare, SaysNumberOrString, SaysNumeric, SaysTextual};
 
-use types::entries::TypeEntry;
+use types::entries::{Root, TypeEntry};
 use types::meeting::meets;
 
-// Whether the type has a number or a string among its values.
-pub fn meets_number_or_string(types: &[TypeEntry], n: usize, e: TypeEntry) -> bool
-    ensures { SaysNumberOrString types.now n e result }
+const NUMBER: Root = Root {
+    entry: TypeEntry::Number,
+    used: 0,
+};
+
+const STRING: Root = Root {
+    entry: TypeEntry::String,
+    used: 0,
+};
+
+// Whether a type has a number or a string among its values.
+pub fn meets_number_or_string(types: &[TypeEntry], v: Root) -> bool
+    ensures { SaysNumberOrString types.now v.used v.entry result }
 {
-    meets(types, n, e, 0, TypeEntry::Number) || meets(types, n, e, 0, TypeEntry::String)
+    meets(types, v, NUMBER) || meets(types, v, STRING)
 }
 
 // Whether two types both meet a third one, which has no parts.
-fn both_meet(types: &[TypeEntry], n: usize, a: TypeEntry, b: TypeEntry, e: TypeEntry) -> bool
-    ensures { SaysBothMeet types.now n a b e result }
+fn both_meet(types: &[TypeEntry], a: Root, b: Root, e: TypeEntry) -> bool
+    ensures { SaysBothMeet types.now a.used a.entry b.used b.entry e result }
 {
-    meets(types, n, a, 0, e) && meets(types, n, b, 0, e)
+    let asked = Root { entry: e, used: 0 };
+    meets(types, a, asked) && meets(types, b, asked)
 }
 
 // Whether two types have values that can be compared: two numbers or two strings.
-pub fn comparable(types: &[TypeEntry], n: usize, a: TypeEntry, b: TypeEntry) -> bool
-    ensures { SaysCompare types.now n a b result }
+pub fn comparable(types: &[TypeEntry], a: Root, b: Root) -> bool
+    ensures { SaysCompare types.now a.used a.entry b.used b.entry result }
 {
-    both_meet(types, n, a, b, TypeEntry::Number) || both_meet(types, n, a, b, TypeEntry::String)
+    both_meet(types, a, b, TypeEntry::Number) || both_meet(types, a, b, TypeEntry::String)
 }
 
 // Whether the type is `number` or a number literal.

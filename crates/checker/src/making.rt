@@ -5,24 +5,23 @@ ghost use Rattle.checker.specs.Makings.{MakesFound, MakesInfix, MakesLiteral, Ma
 use crate::rules::Rule;
 use crate::store::{Store, TooHeavy};
 use building::literals::number_of;
-use building::unions::Made;
 use parser::symbols::{Leaf, Prefix};
 use registers::found::Told;
-use types::entries::TypeEntry;
+use types::entries::{Root, TypeEntry};
 
 impl<'a> Store<'a> {
     // A type whose parts stand in the table already.
-    fn plain(&self, entry: TypeEntry) -> Made
+    pub fn plain(&self, entry: TypeEntry) -> Root
         ensures { result ≡ record { entry = entry; used = self.now.used } }
     {
-        Made {
+        Root {
             entry,
             used: self.used,
         }
     }
 
     // The type of an operator before its operand.
-    pub fn prefix_made(&self, op: Prefix) -> Made
+    pub fn prefix_made(&self, op: Prefix) -> Root
         ensures { MakesPrefix self.now op result }
     {
         match op {
@@ -33,7 +32,7 @@ impl<'a> Store<'a> {
     }
 
     // The type that the rule of an operator between its operands gives.
-    pub fn infix_made(&mut self, rule: Rule, right: TypeEntry) -> Result<Made, TooHeavy>
+    pub fn infix_made(&mut self, rule: Rule, right: TypeEntry) -> Result<Root, TooHeavy>
         ensures lent { self.new.entries.ghost_name ≡ self.old.entries.ghost_name }
         ensures makes { MakesInfix self.old rule right self.new result }
     {
@@ -49,7 +48,7 @@ impl<'a> Store<'a> {
     }
 
     // The type of a number as it is written.
-    fn number_made(&self, text: &[u8]) -> Result<Made, TooHeavy>
+    fn number_made(&self, text: &[u8]) -> Result<Root, TooHeavy>
         ensures { MakesNumber self.now text.now result }
     {
         let entry = number_of(text).ok_or(TooHeavy)?;
@@ -57,7 +56,7 @@ impl<'a> Store<'a> {
     }
 
     // The type of a token that is no name.
-    pub fn literal_made(&mut self, leaf: Leaf, text: &[u8]) -> Result<Made, TooHeavy>
+    pub fn literal_made(&mut self, leaf: Leaf, text: &[u8]) -> Result<Root, TooHeavy>
         ensures lent { self.new.entries.ghost_name ≡ self.old.entries.ghost_name }
         ensures makes { MakesLiteral self.old leaf text.now self.new result }
     {
@@ -72,7 +71,7 @@ impl<'a> Store<'a> {
     }
 
     // The type of a name, by what a register told of it.
-    pub fn found_made(&mut self, found: Option<Told>, room: &[TypeEntry]) -> Result<Made, TooHeavy>
+    pub fn found_made(&mut self, found: Option<Told>, room: &[TypeEntry]) -> Result<Root, TooHeavy>
         ensures lent { self.new.entries.ghost_name ≡ self.old.entries.ghost_name }
         ensures makes { MakesFound self.old found room.now self.new result }
     {

@@ -1,5 +1,6 @@
 // Whole runs of calls.
 ghost use Rattle.std.specs.Prelude.{◌≡◌, length};
+ghost use Rattle.parser.specs.Lending.{Lent, sizes_of};
 ghost use Rattle.checker.specs.Performing.{Performs, refusing, saying};
 ghost use Rattle.checker.specs.Runs.{RunsLawfully, sheet_of};
 
@@ -9,9 +10,9 @@ use crate::finding::Finding;
 use crate::stage::Checked;
 use lexer::refusal::Refusal;
 use parser::read;
-use parser::tree::{OperatorEntry, TreeEntry, WalkFrame};
+use parser::tables::Tables;
+use parser::tree::TreeEntry;
 use registers::register::Register;
-use types::entries::TypeEntry;
 
 // Why a sheet was not checked.
 #[derive(Clone, Copy)]
@@ -39,16 +40,15 @@ fn read_and_check<F: Register, S: Register>(
     first: &F,
     second: &S,
     tree: &mut [TreeEntry],
-    operators: &mut [OperatorEntry],
-    frames: &mut [WalkFrame],
-    types: &mut [TypeEntry],
+    tables: &mut Tables<'_>,
     findings: &mut [Finding],
 ) -> Result<Checked, Refused>
-    ensures { Performs (record { of_tree = length tree.old; of_operators = length operators.old; of_frames = length frames.old; of_types = length types.old }) (F.Register.meaning first.now) sheet.now result findings.new types.new }
+    ensures performs { Performs (sizes_of (length tree.old) tables.old) (F.Register.meaning first.now) sheet.now result findings.new tables.new.types.now }
+    ensures lent { Lent tables.old tables.new }
 {
-    let reading = read(sheet, tree, operators, frames, types).map_err(Refused::Read)?;
+    let reading = read(sheet, tree, tables).map_err(Refused::Read)?;
     check(
-        reading, sheet, tree, first, second, operators, frames, types, findings,
+        reading, sheet, tree, first, second, tables, findings,
     )
     .map_err(|(e, _)| Refused::Check(e))
 }
@@ -60,17 +60,16 @@ impl Call<'_> {
         first: &F,
         second: &S,
         tree: &mut [TreeEntry],
-        operators: &mut [OperatorEntry],
-        frames: &mut [WalkFrame],
-        types: &mut [TypeEntry],
+        tables: &mut Tables<'_>,
         findings: &mut [Finding],
     ) -> Result<Checked, Refused>
-        ensures { Performs (record { of_tree = length tree.old; of_operators = length operators.old; of_frames = length frames.old; of_types = length types.old }) (F.Register.meaning first.now) (sheet_of self.entry) result findings.new types.new }
+        ensures performs { Performs (sizes_of (length tree.old) tables.old) (F.Register.meaning first.now) (sheet_of self.entry) result findings.new tables.new.types.now }
+        ensures lent { Lent tables.old tables.new }
     {
         match self {
             Call::Check { sheet } => {
                 read_and_check(
-                    sheet, first, second, tree, operators, frames, types, findings,
+                    sheet, first, second, tree, tables, findings,
                 )
             }
         }
@@ -98,18 +97,17 @@ pub fn run<F: Register, S: Register>(
     calls: &[Call<'_>],
     said: &mut [Answer],
     tree: &mut [TreeEntry],
-    operators: &mut [OperatorEntry],
-    frames: &mut [WalkFrame],
-    types: &mut [TypeEntry],
+    tables: &mut Tables<'_>,
     findings: &mut [Finding],
 ) -> Option<Checked>
-    ensures { RunsLawfully (record { of_tree = length tree.old; of_operators = length operators.old; of_frames = length frames.old; of_types = length types.old }) (F.Register.meaning first.now) (S.Register.meaning second.now) calls.now said.old said.new findings.new types.new result }
+    ensures runs { RunsLawfully (sizes_of (length tree.old) tables.old) (F.Register.meaning first.now) (S.Register.meaning second.now) calls.now said.old said.new findings.new tables.new.types.now result }
+    ensures lent { Lent tables.old tables.new }
 {
     let mut last = None;
     let made = calls.len().min(said.len());
     // Not over `said.iter_mut()` as well: the proof then knows no answer afterwards.
     for (i, call) in calls[..made].iter().enumerate() {
-        let outcome = call.perform(first, second, tree, operators, frames, types, findings);
+        let outcome = call.perform(first, second, tree, tables, findings);
         said[i] = said_of(&outcome);
         last = outcome.ok();
     }

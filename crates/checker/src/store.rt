@@ -6,12 +6,10 @@ ghost use Rattle.checker.specs.Stores.{Brings, KeepsType, Spells, Unites};
 
 use building::copies::copied;
 use building::literals::string_of;
-use building::unions::{Made, union_of_two};
+use building::unions::union_of_two;
 use building::weights::weight_within;
-use types::entries::TypeEntry;
-
-// The entries of the type table that a check asks for.
-pub const TYPES: usize = 8192;
+use parser::tables::TYPES;
+use types::entries::{Root, TypeEntry};
 
 // That the weights of the types of a sheet are over 8,192 together.
 #[derive(Clone, Copy)]
@@ -41,7 +39,7 @@ impl<'a> Store<'a> {
     }
 
     // The union of two types.
-    pub fn united(&mut self, a: TypeEntry, b: TypeEntry) -> Result<Made, TooHeavy>
+    pub fn united(&mut self, a: TypeEntry, b: TypeEntry) -> Result<Root, TooHeavy>
         ensures lent { self.new.entries.ghost_name ≡ self.old.entries.ghost_name }
         ensures united { Unites self.old a b self.new result }
     {
@@ -50,7 +48,7 @@ impl<'a> Store<'a> {
     }
 
     // The type of the string that a text writes.
-    pub fn spelled(&mut self, text: &[u8]) -> Result<Made, TooHeavy>
+    pub fn spelled(&mut self, text: &[u8]) -> Result<Root, TooHeavy>
         ensures lent { self.new.entries.ghost_name ≡ self.old.entries.ghost_name }
         ensures spelled { Spells self.old text.now self.new result }
     {
@@ -59,7 +57,7 @@ impl<'a> Store<'a> {
     }
 
     // The type that a register told, whose parts stand in other entries.
-    pub fn brought(&mut self, others: &[TypeEntry], made: Made) -> Result<Made, TooHeavy>
+    pub fn brought(&mut self, others: &[TypeEntry], made: Root) -> Result<Root, TooHeavy>
         ensures lent { self.new.entries.ghost_name ≡ self.old.entries.ghost_name }
         ensures brought { Brings self.old others.now made self.new result }
     {
@@ -68,14 +66,14 @@ impl<'a> Store<'a> {
     }
 
     // The weight of a type in hand, or 8,193 where it is more.
-    fn weight_of(&self, made: Made) -> usize
+    fn weight_of(&self, made: Root) -> usize
         ensures { SaysWeight self.now.entries.now made.used made.entry 8193 result }
     {
-        weight_within(self.entries, made.used, made.entry, TYPES + 1)
+        weight_within(self.entries, made, TYPES + 1)
     }
 
     // Keeps a type in hand as that of the next expression.
-    pub fn keep(&mut self, made: Made) -> Result<(), TooHeavy>
+    pub fn keep(&mut self, made: Root) -> Result<(), TooHeavy>
         ensures lent { self.new.entries.ghost_name ≡ self.old.entries.ghost_name }
         ensures kept { KeepsType self.old made self.new result }
     {

@@ -9,11 +9,10 @@ use crate::finding::Finding;
 use crate::first::First;
 use crate::rules::rule_of;
 use crate::store::{Store, TooHeavy};
-use building::unions::Made;
 use parser::symbols::{Operator, Prefix};
 use parser::tree::{OperatorEntry, TreeEntry, WalkFrame};
 use stack::Stack;
-use types::entries::TypeEntry;
+use types::entries::{Root, TypeEntry};
 
 // What a walk reads: a sheet, its tree, and the register of its names.
 #[derive(Drop)]
@@ -69,7 +68,7 @@ impl<'a> Walk<'a> {
     }
 
     // An expression has ended, with its type in hand.
-    pub fn ended(&mut self, store: &mut Store, place: usize, made: Made) -> Result<(), TooHeavy>
+    pub fn ended(&mut self, store: &mut Store, place: usize, made: Root) -> Result<(), TooHeavy>
         ensures { Ends self.old store.old place made self.new store.new result }
     {
         store.keep(made)?;

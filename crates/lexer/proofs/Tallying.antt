@@ -192,9 +192,3 @@ pub stopped_told : (sheet : List ℕ) (at : ℕ) (a : Tally) (e : Refusal) → l
 stopped_told sheet at a e short s f =
     let all = s.rest [] _ (refused f.gap f.past f.why) in
     stopped_first sheet short all.tokens e (subst (λ i. Lexes sheet 0 all.tokens (stopped e.reason i)) (sym f.place) all.lexes)
-
--- a refusal is the first fault where its parts are
-pub by_parts : {sheet : List ℕ} (e : Refusal) (r : Reason) (p : ℕ) → e.reason ≡ r → e.place ≡ p → FirstFault (TokenFault sheet) (record { reason = r; place = p }) → FirstFault (TokenFault sheet) e
-by_parts {sheet} e r p f g h =
-    subst (λ x. FirstFault (TokenFault sheet) (record { reason = x; place = e.place })) (sym f)
-    (subst (λ y. FirstFault (TokenFault sheet) (record { reason = r; place = y })) (sym g) h)

@@ -12,8 +12,7 @@ pub struct Refusal {
 impl Reason {
     // The refusal for this reason, at a place.
     pub fn at(self, place: usize) -> Refusal
-        ensures reason { result.reason ≡ self }
-        ensures place { result.place ≡ place }
+        ensures { result ≡ record { reason = self; place = place } }
     {
         Refusal {
             reason: self,

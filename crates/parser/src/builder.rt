@@ -200,10 +200,7 @@ impl<'a> Builder<'a> {
     {
         match position {
             Position::Start => Ok(Read::new(self.used, self.last)),
-            _ => Err(Refusal {
-                reason: Reason::NoProgram,
-                place: end,
-            }),
+            _ => Err(Reason::NoProgram.at(end)),
         }
     }
 }

@@ -31,10 +31,7 @@ pub fn read(
     ensures lent { Lent tables.old tables.new }
 {
     if tables.is_short(tree.len()) {
-        return Err(Refusal {
-            reason: Reason::ShortTable,
-            place: 0,
-        });
+        return Err(Reason::ShortTable.at(0));
     }
     scan(sheet)?;
     parse(sheet, tree, tables.operators)

@@ -41,10 +41,9 @@ fn build(sheet: &[u8], builder: &mut Builder) -> Result<Read, Refusal>
     let mut reader = Reader { sheet, at: 0 };
     let mut position = Position::Start;
     while let Some(t) = reader.next()? {
-        position = builder.step(position, t.into()).ok_or(Refusal {
-            reason: Reason::NoProgram,
-            place: t.at,
-        })?;
+        position = builder
+            .step(position, t.into())
+            .ok_or(Reason::NoProgram.at(t.at))?;
     }
     builder.finish(position, sheet.len())
 }

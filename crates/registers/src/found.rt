@@ -1,5 +1,5 @@
 // What a register answers.
-use building::unions::Made;
+use types::entries::Root;
 
 // A scheme, by which a call is typed.
 #[derive(Clone, Copy, PartialEq, Eq, Debug)]
@@ -14,5 +14,5 @@ pub enum Scheme {
 #[derive(Clone, Copy)]
 pub enum Told {
     Scheme(Scheme),
-    Typed(Made),
+    Typed(Root),
 }

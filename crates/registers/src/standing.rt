@@ -6,8 +6,7 @@ ghost use Rattle.registers.specs.Standings.{basic_entry, basic_type, basic_types
 ghost use Rattle.registers.specs.Telling.{MadeIn, Tells};
 
 use crate::found::{Scheme, Told};
-use building::unions::Made;
-use types::entries::TypeEntry;
+use types::entries::{Root, TypeEntry};
 
 // A type without parts.
 #[derive(Clone, Copy, PartialEq, Eq, Debug)]
@@ -42,7 +41,7 @@ impl From<Basic> for TypeEntry {
 }
 
 // A function type of types without parts: its parameters are written into `room`, and its result after them.
-fn told_function(parameters: &[Basic], last: Basic, room: &mut [TypeEntry; 128]) -> Made
+fn told_function(parameters: &[Basic], last: Basic, room: &mut [TypeEntry; 128]) -> Root
     requires { length parameters.now < 128 }
     ensures { MadeIn room.new (function (basic_types parameters.now) (basic_type last)) result }
 {
@@ -51,7 +50,7 @@ fn told_function(parameters: &[Basic], last: Basic, room: &mut [TypeEntry; 128])
     }
     let count = parameters.len();
     room[count] = TypeEntry::from(last);
-    Made {
+    Root {
         entry: TypeEntry::Function { first: 0, count },
         used: count + 1,
     }
@@ -64,7 +63,7 @@ pub fn told(standing: Standing, room: &mut [TypeEntry; 128]) -> Told
 {
     match standing {
         Standing::Scheme(scheme) => Told::Scheme(scheme),
-        Standing::Plain(t) => Told::Typed(Made {
+        Standing::Plain(t) => Told::Typed(Root {
             entry: TypeEntry::from(t),
             used: 0,
         }),

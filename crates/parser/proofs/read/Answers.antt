@@ -4,7 +4,7 @@ use Rattle.parser.proofs.Faults.{short_first, token_first, answered}
 use Rattle.parser.proofs.read.Goals as goal
 
 pub returns-then-is_short-clause-reads : goal.returns-then-is_short-clause-reads
-returns-then-is_short-clause-reads c = short_first _ _ (c.is_short.ensures.0 c.if-is_short.true)
+returns-then-is_short-clause-reads c = rw c.at.ensures (short_first _ _ (c.is_short.ensures.0 c.if-is_short.true))
 
 pub returns-in_err-scan-clause-reads : goal.returns-in_err-scan-clause-reads
 returns-in_err-scan-clause-reads c =

@@ -4,18 +4,18 @@ use Rattle.checker.specs.Checks.{short_table, damaged, too_heavy}
 use Rattle.checker.proofs.Checking.{refuted, enough, checked_as}
 use Rattle.checker.proofs.check.check.Goals as goal
 
-pub returns-then-is_short : goal.returns-then-is_short
-returns-then-is_short g c = (short_table (c.is_short.ensures.0 c.if-is_short.true), refl, c.blank_out.ensures)
+pub returns-then-is_short-clause-checks : goal.returns-then-is_short-clause-checks
+returns-then-is_short-clause-checks g c = (short_table (c.is_short.ensures.0 c.if-is_short.true), refl, c.blank_out.ensures)
 
-pub returns-then-not-proper : goal.returns-then-not-proper
-returns-then-not-proper g c = (
+pub returns-then-not-proper-clause-checks : goal.returns-then-not-proper-clause-checks
+returns-then-not-proper-clause-checks g c = (
   damaged (refuted _ c.is_short.ensures c.if-is_short.false) (λ p. refuted _ c.proper.ensures c.if-not-proper.true (subst (AllProper _ _) (sym c.used.ensures) p)),
   refl,
   c.blank_out.ensures,
 )
 
-pub returns-in-Err : goal.returns-in-Err
-returns-in-Err g c =
+pub returns-in-Err-clause-checks : goal.returns-in-Err-clause-checks
+returns-in-Err-clause-checks g c =
     let long = refuted _ c.is_short.ensures c.if-is_short.false in
     let e = enough _ long in (
       too_heavy long (subst (AllProper _ _) c.used.ensures (c.proper.ensures.0 c.if-not-proper.false))
@@ -24,8 +24,8 @@ returns-in-Err g c =
       c.blank_out-in-Err.ensures,
     )
 
-pub returns-in-Ok : goal.returns-in-Ok
-returns-in-Ok g c =
+pub returns-in-Ok-clause-checks : goal.returns-in-Ok-clause-checks
+returns-in-Ok-clause-checks g c =
     let long = refuted _ c.is_short.ensures c.if-is_short.false in
     let e = enough _ long in
     let sound = g.F.Register.sound c.args.first.now in (

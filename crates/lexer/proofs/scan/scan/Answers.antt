@@ -2,13 +2,13 @@ use Rattle.std.proofs.Common.{refl, arith}
 use Rattle.std.proofs.lemmas.Result.{err_from_is_err_and}
 use Rattle.lexer.proofs.Steps.{onward, given, finished_at, stopped_at}
 use Rattle.lexer.proofs.Verdicts.{long_first}
-use Rattle.lexer.proofs.Tallying.{tallied_none, stopped_told, by_parts}
+use Rattle.lexer.proofs.Tallying.{tallied_none, stopped_told}
 use Rattle.lexer.specs.Reading.{Given}
 use Rattle.lexer.proofs.scan.scan.Goals as goal
 use Rattle.lexer.proofs.scan.scan.Goals.{In-Some}
 
 pub returns-then-sheet-gt-SHEET_LIMIT : goal.returns-then-sheet-gt-SHEET_LIMIT
-returns-then-sheet-gt-SHEET_LIMIT c = by_parts _ _ _ c.at.ensures.reason c.at.ensures.place (long_first _ c.if-sheet-gt-SHEET_LIMIT.true)
+returns-then-sheet-gt-SHEET_LIMIT c = rw c.at.ensures (long_first _ c.if-sheet-gt-SHEET_LIMIT.true)
 
 pub loop-t-init : goal.loop-t-init
 loop-t-init c = let told = c.default-tally.ensures in (refl, tallied_none _ _ told.0 told.1.0 told.1.1.0)
