@@ -1,12 +1,12 @@
 -- Closed unions. Assumes nothing.
-use Rattle.std.proofs.Common.{◌≡◌, ℕ, ◌+◌, ◌<◌, ◌≤◌, List, length, Some, None, sym, refl, subst, ⊎_elim, arith}
+use Rattle.std.proofs.Common.{◌≡◌, ℕ, ◌+◌, ◌<◌, ◌≤◌, ◌⊎◌, List, length, Some, None, sym, refl, subst, ⊎_elim, arith}
 use Rattle.types.specs.declared.entries.TypeEntry.{TypeEntry}
 use Rattle.types.specs.declared.entries.TypeEntry.TheVariants.{Any, Union}
 use Rattle.types.specs.Types.{Ty, Types, any, number, number_literal, string, string_literal, boolean, true_literal, false_literal, undefined, null, function, pair, list, union, no_types, ◌and◌, count}
 use Rattle.types.specs.Kinds.{OfKind}
 use Rattle.types.specs.Table.{entry_at, Is, is_any, is_union, Run, run_end, run_more}
 use Rattle.types.proofs.Lower.{is_kept, higher}
-use Rattle.building.specs.declared.unions.Made.{Made}
+use Rattle.types.specs.declared.entries.Root.{Root}
 use Rattle.building.specs.Unions.{◌then◌, Brings, brings_none, In, in_first, order_none, Members, UnionOf, union_any, union_one, union_more}
 use Rattle.building.specs.Forms.{form_any, form_none, form_more}
 use Rattle.building.specs.Weights.{weight, weights}
@@ -112,17 +112,11 @@ too_heavy es used b none short (union_more {t} {u} {us} c m) =
     let w = count_weights (t and u and us) in
     omega arith
 
-pub first_any : (es : List TypeEntry) (used : ℕ) (a b : TypeEntry) → used ≤ length es → a ≡ Any → MakesUnion es es used a b (Some (record { entry = a; used = used }))
-first_any es used a b low p s t hs ht f g =
+pub some_any : (es : List TypeEntry) (used : ℕ) (a b : TypeEntry) → used ≤ length es → (a ≡ Any) ⊎ (b ≡ Any) → MakesUnion es es used a b (Some (record { entry = Any; used = used }))
+some_any es used a b low p s t hs ht f g =
     let x = flat_of f in
     let y = flat_of g in
-    made_any low p (two_bring x.1 y.1) (in_front y.0 (any_in (subst (λ e. Is es used e s) p hs) x.1))
-
-pub second_any : (es : List TypeEntry) (used : ℕ) (a b : TypeEntry) → used ≤ length es → b ≡ Any → MakesUnion es es used a b (Some (record { entry = b; used = used }))
-second_any es used a b low p s t hs ht f g =
-    let x = flat_of f in
-    let y = flat_of g in
-    made_any low p (two_bring x.1 y.1) (at_end x.0 (any_in (subst (λ e. Is es used e t) p ht) y.1))
+    made_any low refl (two_bring x.1 y.1) (⊎_elim (λ q. in_front y.0 (any_in (subst (λ e. Is es used e s) q hs) x.1)) (λ q. at_end x.0 (any_in (subst (λ e. Is es used e t) q ht) y.1)) p)
 
 module _ (es : List TypeEntry) (used : ℕ) (a b : TypeEntry) (not_a : a ≡ Any → ⊥) (not-b : b ≡ Any → ⊥) where
   no_union : {s t : Ty} (xs ys : Types) → Is es used a s → Is es used b t → Flat s xs → Flat t ys → HasNoRoom es used (xs then ys) → (u : Ty) → UnionOf (s and t and no_types) u → length es < used + weight u
@@ -142,7 +136,7 @@ module _ (es : List TypeEntry) (used : ℕ) (a b : TypeEntry) (not_a : a ≡ Any
       let o = d s no_types x.0 not_a hs x.1 (empty es used) in
       no_union x.0 y.0 hs ht x.1 y.1 (λ ms has. let short = c t x.0 y.0 not-b (is_kept (agree kept) ht) y.1 o ms has in omega arith)
 
-  pub both : (fs gs : List TypeEntry) (n m : ℕ) (r : Made) → Kept es fs used → AddsAll es fs used 0 a (Some n) → AddsAll fs gs used n b (Some m) → Closes gs used m r → MakesUnion es gs used a b (Some r)
+  pub both : (fs gs : List TypeEntry) (n m : ℕ) (r : Root) → Kept es fs used → AddsAll es fs used 0 a (Some n) → AddsAll fs gs used n b (Some m) → Closes gs used m r → MakesUnion es gs used a b (Some r)
   both fs gs n m r kept d c close s t hs ht f g =
       let x = flat_of f in
       let y = flat_of g in

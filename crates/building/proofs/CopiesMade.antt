@@ -1,10 +1,14 @@
 -- Types copied from one run of entries to another. Assumes nothing.
-use Rattle.std.proofs.Common.{◌≡◌, ℕ, suc, ◌+◌, ◌-◌, ◌^◌, ◌<◌, ◌≤◌, List, length, Some, sym, refl, ap, ◌∙◌, subst, arith}
+use Rattle.std.proofs.Common.{◌≡◌, ℕ, suc, ◌+◌, ◌-◌, ◌^◌, ◌<◌, ◌≤◌, List, length, set, take, Some, sym, refl, ap, ◌∙◌, subst, ⊎_elim, arith}
+use borrow.Rule.Slice.PartMut.{put_mid}
+use Rattle.std.proofs.lemmas.Bool.{cases_eq}
+use Rattle.std.proofs.lemmas.List.{get_or-take, length-take}
 use Rattle.types.specs.declared.entries.TypeEntry.{TypeEntry}
 use Rattle.types.specs.Types.{Ty, Types}
 use Rattle.types.specs.Table.{entry_at, UnitsAt, Is, is_any, is_number, is_number_literal, is_string, is_string_literal, is_boolean, is_true, is_false, is_undefined, is_null, is_function, is_pair, is_list, is_union, Run, run_end, run_more}
-use Rattle.building.specs.declared.unions.Made.{Made}
+use Rattle.types.specs.declared.entries.Root.{Root}
 use Rattle.building.specs.Entries.{up, shift}
+use Rattle.building.proofs.Written.{elsewhere, here, put_long, put_holds}
 use Rattle.building.specs.Made.{MakesCopy, StandsFor, a_type, a_unit}
 
 -- the entries below n stand in fs, moved up
@@ -60,7 +64,7 @@ shift_stands : {es fs : List TypeEntry} (by n i j : ℕ) → Moved es fs by n �
 shift_stands by n i j m lt e (a_type h) = a_type (moved_at by n i j m lt e (shift_held by n m (omega arith) h))
 shift_stands {fs} by n i j m lt e (a_unit u) = a_unit (ap (λ k. entry_at fs k) e ∙ m.copies i lt ∙ ap (shift by) u)
 
-pub copy_made : (es fs others : List TypeEntry) (used : ℕ) (m : Made) {e : TypeEntry} → used + m.used ≤ length fs → used + m.used < 2 ^ 64 → e ≡ shift used m.entry → ((j : ℕ) → j < m.used → entry_at fs (used + j) ≡ shift used (entry_at others j)) → MakesCopy es fs used others m (Some (record { entry = e; used = used + m.used }))
+pub copy_made : (es fs others : List TypeEntry) (used : ℕ) (m : Root) {e : TypeEntry} → used + m.used ≤ length fs → used + m.used < 2 ^ 64 → e ≡ shift used m.entry → ((j : ℕ) → j < m.used → entry_at fs (used + j) ≡ shift used (entry_at others j)) → MakesCopy es fs used others m (Some (record { entry = e; used = used + m.used }))
 copy_made es fs others used m {e} room fit is copies le all t h =
     let moved : Moved others fs used m.used = record { copies = copies; fit = fit } in
     record {
@@ -69,3 +73,31 @@ copy_made es fs others used m {e} room fit is copies le all t h =
       within = room;
       filled = λ j low lt. shift_stands used m.used (j - used) j moved (omega arith) (omega arith) (all (j - used) (omega arith) (omega arith));
     }
+
+-- one more of the copied entries moved up
+pub shift_one : (xs ys : List TypeEntry) (by i : ℕ) {x : TypeEntry} → i < length xs → x ≡ shift by (entry_at xs i)
+    → ((j : ℕ) → j < i → entry_at xs j ≡ shift by (entry_at ys j)) × ((j : ℕ) → i ≤ j → entry_at xs j ≡ entry_at ys j)
+    → ((j : ℕ) → j < i + 1 → entry_at (set xs i x) j ≡ shift by (entry_at ys j)) × ((j : ℕ) → i + 1 ≤ j → entry_at (set xs i x) j ≡ entry_at ys j)
+shift_one xs ys by i {x} lt e p = (
+  λ j l.
+      ⊎_elim
+      (λ q. subst (λ k. entry_at (set xs i x) k ≡ shift by (entry_at ys k)) (sym q) (here xs i x lt ∙ e ∙ ap (shift by) (p.1 i (omega arith))))
+      (λ ne. elsewhere xs i j x ne ∙ p.0 j (omega arith))
+      (cases_eq j i),
+  λ j l. elsewhere xs i j x (λ q. omega arith) ∙ p.1 j (omega arith),
+)
+
+-- the copied entries written in
+pub copy_written : (es others ps qs : List TypeEntry) (used end : ℕ) (m : Root) {e : TypeEntry} → end ≡ used + m.used → end ≤ length es → end < 2 ^ 64 → m.used ≤ length others → qs ≡ take m.used others → length ps ≡ length qs → ((j : ℕ) → j < length ps → entry_at ps j ≡ shift used (entry_at qs j)) → e ≡ shift used m.entry → MakesCopy es (put_mid used (end - used) es ps) used others m (Some (record { entry = e; used = end }))
+copy_written es others ps qs used end m {e} at-end room fit all is long moved top =
+    let size : length qs ≡ m.used = ap length is ∙ simp length-take (omega arith) in
+    let n : length ps ≡ end - used = omega arith in
+    let low : used ≤ length es = omega arith in
+    let whole = put_long es ps used (end - used) (omega arith) n in
+    subst
+    (λ k. MakesCopy es (put_mid used (end - used) es ps) used others m (Some (record { entry = e; used = k })))
+    (sym at-end)
+    (copy_made es (put_mid used (end - used) es ps) others used m (omega arith) (omega arith) top (λ j lt.
+    let l : j < length ps = omega arith in
+    let from : entry_at qs j ≡ entry_at others j = ap (λ xs. entry_at xs j) is ∙ rw get_or-take refl in
+    put_holds es ps used (end - used) j low l ∙ moved j l ∙ ap (shift used) from))

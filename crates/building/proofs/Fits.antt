@@ -1,12 +1,11 @@
 -- Where the weight of a type fits in, making it does not fail. Assumes nothing.
-use Rattle.std.proofs.Common.{◌≡◌, ℕ, ◌+◌, ◌≤◌, List, length, Some, None, Option, refl, ap, arith}
+use Rattle.std.proofs.Common.{◌≡◌, ℕ, ◌+◌, ◌≤◌, List, length, Some, None, Option, Ok, Err, Result, refl, ap, arith}
 use Rattle.types.specs.declared.entries.TypeEntry.{TypeEntry}
 use Rattle.types.specs.Values.{Text}
 use Rattle.types.specs.Types.{Ty, Types, string_literal, function, pair, list, count}
-use Rattle.building.specs.declared.unions.Made.{Made}
+use Rattle.types.specs.declared.entries.Root.{Root}
 use Rattle.building.specs.declared.parts.Side.{Side}
-use Rattle.building.specs.declared.parts.Parted.{Parted}
-use Rattle.building.specs.declared.parts.Parted.TheVariants.{Lacking, NoRoom, Part}
+use Rattle.building.specs.declared.parts.NoRoom.{NoRoom}
 use Rattle.building.specs.HeadsAndTails.{PartOf}
 use Rattle.building.specs.Unions.{UnionOf}
 use Rattle.building.specs.Weights.{weight}
@@ -14,21 +13,21 @@ use Rattle.building.specs.Made.{TypeMade, TypeOrNone, UnionMade, UnionOrNone, Pa
 use Rattle.building.proofs.Closed.{some_weight, count_weights}
 use Rattle.building.proofs.OneUnion.{union_is_one, one_part}
 
-pub type_fits : (es fs : List TypeEntry) (used n : ℕ) (t : Ty) (r : Option Made) → TypeOrNone es fs used n t r → n ≤ weight t → used + weight t ≤ length es → (m : Made) × (r ≡ Some m) × TypeMade fs used t m
+pub type_fits : (es fs : List TypeEntry) (used n : ℕ) (t : Ty) (r : Option Root) → TypeOrNone es fs used n t r → n ≤ weight t → used + weight t ≤ length es → (m : Root) × (r ≡ Some m) × TypeMade fs used t m
 type_fits es fs used n t (Some m) h le room = (m, refl, h)
 type_fits es fs used n t None h le room = absurd (omega arith)
 
-pub union_fits : (es fs : List TypeEntry) (used : ℕ) (ts : Types) (t : Ty) (r : Option Made) → UnionOrNone es fs used ts r → UnionOf ts t → used + weight t ≤ length es → (m : Made) × (r ≡ Some m) × UnionMade fs used ts m
+pub union_fits : (es fs : List TypeEntry) (used : ℕ) (ts : Types) (t : Ty) (r : Option Root) → UnionOrNone es fs used ts r → UnionOf ts t → used + weight t ≤ length es → (m : Root) × (r ≡ Some m) × UnionMade fs used ts m
 union_fits es fs used ts t (Some m) h u room = (m, refl, h)
 union_fits es fs used ts t None h u room = let short = h t u in absurd (omega arith)
 
-pub part_fits : (es fs : List TypeEntry) (used : ℕ) (side : Side) (t p : Ty) (r : Parted) → PartAnswer es fs used side t r → PartOf side t p → used + weight p ≤ length es → (m : Made) × (r ≡ Part m) × PartMade fs used side t m
-part_fits es fs used side t p Lacking h o room = absurd (h p o)
-part_fits es fs used side t p NoRoom h o room = let e : weight h.0 ≡ weight p = ap weight (one_part side t h.0 p h.1 o) in absurd (omega (arith, h.2))
-part_fits es fs used side t p (Part m) h o room = (m, refl, h)
+pub part_fits : (es fs : List TypeEntry) (used : ℕ) (side : Side) (t p : Ty) (r : Result (Option Root) NoRoom) → PartAnswer es fs used side t r → PartOf side t p → used + weight p ≤ length es → (m : Root) × (r ≡ Ok (Some m)) × PartMade fs used side t m
+part_fits es fs used side t p (Ok None) h o room = absurd (h p o)
+part_fits es fs used side t p (Err n) h o room = let e : weight h.0 ≡ weight p = ap weight (one_part side t h.0 p h.1 o) in absurd (omega (arith, h.2))
+part_fits es fs used side t p (Ok (Some m)) h o room = (m, refl, h)
 
 -- the union made is the union of the types
-pub made_is : {es : List TypeEntry} {used : ℕ} {ts : Types} {m : Made} {t : Ty} (u : UnionMade es used ts m) → UnionOf ts t → u.made ≡ t
+pub made_is : {es : List TypeEntry} {used : ℕ} {ts : Types} {m : Root} {t : Ty} (u : UnionMade es used ts m) → UnionOf ts t → u.made ≡ t
 made_is u v = union_is_one u.is_union v
 
 -- the makers ask for no more entries than the type weighs

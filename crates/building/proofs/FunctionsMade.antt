@@ -1,5 +1,6 @@
 -- Function types made in the table. Assumes nothing.
-use Rattle.std.proofs.Common.{◌≡◌, ℕ, suc, ◌+◌, ◌<◌, ◌≤◌, List, length, get_or, set, Some, sym, refl, ap, ◌∙◌, subst, add-zero, arith, length-set}
+use Rattle.std.proofs.Common.{◌≡◌, ℕ, suc, ◌+◌, ◌-◌, ◌<◌, ◌≤◌, List, length, get_or, set, Some, sym, refl, ap, ◌∙◌, subst, add-zero, arith, length-set}
+use borrow.Rule.Slice.PartMut.{put_mid}
 use Rattle.types.specs.declared.entries.TypeEntry.{TypeEntry}
 use Rattle.types.specs.declared.entries.TypeEntry.TheVariants.{Unused, Function}
 use Rattle.types.specs.Types.{Types, count}
@@ -8,7 +9,7 @@ use Rattle.types.proofs.Lower.{Agree, is_kept, higher}
 use Rattle.building.specs.Made.{Kept, Hold, hold_none, hold_more, MakesFunction, a_type}
 use Rattle.building.proofs.OneMore.{agree}
 use Rattle.building.proofs.Closed.{some_weight, count_weights}
-use Rattle.building.proofs.Written.{elsewhere, here, kept_more}
+use Rattle.building.proofs.Written.{elsewhere, here, kept_more, put_long, put_kept, put_holds}
 use Rattle.building.proofs.Filled.{filled_more, run_filled}
 
 pub hold_count : {es : List TypeEntry} {n : ℕ} {hs : List TypeEntry} {ts : Types} → Hold es n hs ts → count ts ≡ length hs
@@ -41,3 +42,18 @@ function_made es fs used n ps e all long room kept at ts t hs ht =
       light = omega arith;
       filled = filled_more used (used + n) (omega arith) (run_filled r) (a_type last);
     }
+
+-- the parameters copied, and the result after them
+pub function_written : (es : List TypeEntry) (used end : ℕ) (ps qs : List TypeEntry) (e : TypeEntry) → end ≡ used + length ps → end < length es → qs ≡ ps → MakesFunction es (set (put_mid used (end - used) es qs) end e) used ps e (Some (record { entry = Function used (length ps); used = end + 1 }))
+function_written es used end ps qs e at-end room same =
+    let n = used + length ps - used in
+    let long : length qs ≡ n = ap length same ∙ omega arith in
+    let low : used ≤ length es = omega arith in
+    let fit : used + n ≤ length es = omega arith in
+    let close : used + length ps + 1 ≤ length es = omega arith in
+    subst
+    (λ k. MakesFunction es (set (put_mid used (k - used) es qs) k e) used ps e (Some (record { entry = Function used (length ps); used = k + 1 })))
+    (sym at-end)
+    (function_made es (put_mid used n es qs) used (length ps) ps e refl (put_long es qs used n fit long) close (put_kept es qs used n low) (λ j lt.
+    let l : j < length qs = omega (arith, ap length same) in
+    put_holds es qs used n j low l ∙ ap (λ xs. entry_at xs j) same))

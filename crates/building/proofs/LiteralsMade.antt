@@ -1,5 +1,5 @@
 -- Number literals and string literals made in the table. Assumes nothing.
-use Rattle.std.proofs.Common.{◌≡◌, ℕ, ◌+◌, ◌-◌, ◌%◌, ◌<◌, ◌≤◌, Bool, true, false, cond, not, ◌&&◌, eqb, ltb, ◌⊎◌, List, [], ◌∷◌, length, get_or, drop, ℤ, pos, ◌+ℤ◌, ◌-ℤ◌, Some, None, Option, sym, refl, ap, ◌∙◌, subst, ap₂, inl, inr, ⊎_elim, add-one, arith, length-set, drop-cons}
+use Rattle.std.proofs.Common.{set, ◌≡◌, ℕ, ◌+◌, ◌-◌, ◌%◌, ◌<◌, ◌≤◌, Bool, true, false, cond, not, ◌&&◌, eqb, ltb, ◌⊎◌, List, [], ◌∷◌, length, get_or, drop, ℤ, pos, ◌+ℤ◌, ◌-ℤ◌, Some, None, Option, sym, refl, ap, ◌∙◌, subst, ap₂, inl, inr, ⊎_elim, add-one, arith, length-set, drop-cons}
 use lib.IntN.{+ℤ-neg_ℤ_cancel, -ℤ-+ℤ_cancel}
 use Rattle.std.proofs.lemmas.List.{drop_all}
 use Rattle.std.proofs.lemmas.Bool.{cases_lt, and_parts, ltb-true, lt-ltb, ne_eqb}
@@ -17,7 +17,6 @@ use Rattle.types.specs.declared.entries.TypeEntry.TheVariants.{NumberLiteral, St
 use Rattle.types.specs.Values.{Decimal, Text, canonical, is_zero, units16}
 use Rattle.types.specs.Table.{entry_at, is_number_literal, is_string_literal}
 use Rattle.types.proofs.Parts.{same_decimal, same_text}
-use Rattle.building.specs.Entries.{PutsUnit}
 use Rattle.building.specs.Made.{Kept, a_unit}
 use Rattle.building.specs.Literals.{Numeral, NumberGiven, GivesNumber, SpelledString, MakesString, LiteralLaws}
 use Rattle.building.proofs.Written.{kept_more, written_more}
@@ -106,11 +105,10 @@ module _ (es fs : List TypeEntry) (used : ℕ) (text s : List ℕ) (same-text-is
   one_unit : (u next : ℕ) → Next (get_or s 0 0) s at (Some u) next → (us : List ℕ) → Decodes text us → (n < length us) × (u ≡ get_or us n 0) × Closes (get_or text 0 0) (drop next text) (drop (n + 1) us) []
   one_unit u next w us d = next_unit (get_or text 0 0) (quote_of text us d) (drop at text) (drop next text) us n u (f.filled us d).left (on_text (Some u) next w).0
 
-  pub unit_filled : (u next : ℕ) {gs : List TypeEntry} → PutsUnit fs gs (used + n) u true → Next (get_or s 0 0) s at (Some u) next → Filling es gs used text next (n + 1)
-  unit_filled u next put w =
+  pub unit_filled : (u next : ℕ) → used + n < length fs → Next (get_or s 0 0) s at (Some u) next → Filling es (set fs (used + n) (CodeUnit u)) used text next (n + 1)
+  unit_filled u next room w =
       let long = length-set fs (used + n) (CodeUnit u) in
-      let room = put.0 in
-      subst (λ gs. Filling es gs used text next (n + 1)) (sym put.1) (record {
+      record {
         same = kept_more es fs used n (CodeUnit u) f.same;
         room = omega arith;
         filled = λ us d.
@@ -120,7 +118,7 @@ module _ (es fs : List TypeEntry) (used : ℕ) (text s : List ℕ) (same-text-is
               left = o.2;
               some_of = omega (arith, o.0);
             };
-      })
+      }
 
   pub string_full : (u next : ℕ) → length fs ≡ length es → length fs ≤ used + n → Next (get_or s 0 0) s at (Some u) next → MakesString es fs used text None
   string_full u next long full w x d = let o = one_unit u next w x.units d in omega (arith, o.0)

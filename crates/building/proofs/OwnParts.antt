@@ -35,11 +35,11 @@ list_head {es} {n} {element} {e} {side} is s le t h = go (known is h)
     go : {t : Ty} → Is es n (ListOf element) t → PartHeld es n side t (entry_at es element)
     go (is_list {t} low x) = record { part = t; is_part = subst (λ z. OwnPart z (list t) t) (sym s) head_of_list; holds = higher n (omega arith) x }
 
-pub list_tail : {es : List TypeEntry} {n element : ℕ} {e : TypeEntry} {side : Side} → e ≡ ListOf element → side ≡ Tail → GivesPart es n e side (Some (ListOf element))
+pub list_tail : {es : List TypeEntry} {n element : ℕ} {e : TypeEntry} {side : Side} → e ≡ ListOf element → side ≡ Tail → GivesPart es n e side (Some e)
 list_tail {es} {n} {element} {e} {side} is s le t h = go (known is h)
   where
-    go : {t : Ty} → Is es n (ListOf element) t → PartHeld es n side t (ListOf element)
-    go (is_list {t} low x) = record { part = list t; is_part = subst (λ z. OwnPart z (list t) (list t)) (sym s) tail_of_list; holds = is_list low x }
+    go : {t : Ty} → Is es n (ListOf element) t → PartHeld es n side t e
+    go (is_list {t} low x) = record { part = list t; is_part = subst (λ z. OwnPart z (list t) (list t)) (sym s) tail_of_list; holds = subst (λ y. Is es n y (list t)) (sym is) (is_list low x) }
 
 pub no_part : {es : List TypeEntry} {n : ℕ} {e : TypeEntry} {side : Side} → (e ≡ Any → ⊥) → ((head tail : ℕ) → e ≡ Pair head tail → ⊥) → ((element : ℕ) → e ≡ ListOf element → ⊥) → GivesPart es n e side None
 no_part {es} {n} {e} {side} a p l le t h q x = go refl h x

@@ -1,5 +1,5 @@
 -- The part of a union. Assumes nothing.
-use Rattle.std.proofs.Common.{◌≡◌, ℕ, zero, suc, ◌+◌, ◌-◌, ◌<◌, ◌≤◌, Bool, true, false, ◌⊎◌, List, length, Some, None, Decides, Option, sym, refl, ap, ◌∙◌, subst, inl, inr, ⊎_elim, arith}
+use Rattle.std.proofs.Common.{◌≡◌, ℕ, zero, suc, ◌+◌, ◌-◌, ◌<◌, ◌≤◌, Bool, true, false, ◌⊎◌, List, length, Some, None, Decides, Option, Ok, Err, sym, refl, ap, ◌∙◌, subst, inl, inr, ⊎_elim, arith}
 use Rattle.std.proofs.lemmas.Bool.{both_ways}
 use Rattle.types.specs.declared.entries.TypeEntry.{TypeEntry}
 use Rattle.types.specs.declared.entries.TypeEntry.TheVariants.{Any, Union}
@@ -8,19 +8,20 @@ use Rattle.types.specs.declared.kinds.Kind.{Kind}
 use Rattle.types.specs.Kinds.{OfKind}
 use Rattle.types.specs.Table.{entry_at, Is, is_any, is_union, Run, run_end, run_more}
 use Rattle.types.proofs.Lower.{is_kept, higher}
-use Rattle.building.specs.declared.unions.Made.{Made}
+use Rattle.types.specs.declared.entries.Root.{Root}
+use Rattle.types.specs.Roots.{root_at}
+use Rattle.building.specs.declared.parts.NoRoom.{NoRoom}
 use Rattle.building.specs.declared.parts.Side.{Side}
 use Rattle.building.specs.declared.parts.Side.TheVariants.{Head, Tail}
-use Rattle.building.specs.declared.parts.Parted.TheVariants.{Lacking, NoRoom, Part}
 use Rattle.building.specs.Unions.{◌then◌, Brings, brings_none, brings_any, brings_itself, brings_members, In, in_first, in_other, UnionOf, union_any, union_one, union_more}
 use Rattle.building.specs.Forms.{InForm, form_any, form_pair, form_list, form_union, AllInForm, form_none, form_more}
 use Rattle.building.specs.HeadsAndTails.{OwnPart, of_any, head_of_pair, tail_of_pair, head_of_list, tail_of_list, OwnParts, parts_none, parts_more, parts_without, PartOf, part_own, part_union}
 use Rattle.building.specs.Laws.{PartOrLack, PartTold}
 use Rattle.building.specs.Entries.{Flat, flat_any, flat_one, flat_members, Open, Opened, HasNoRoom, AddsAll, Closes, SaysPartAny, SaysAnyPart, AddsPart, AddsParts}
-use Rattle.building.specs.Made.{Kept, PartHeld, PartAnswer, MakesPart}
+use Rattle.building.specs.Made.{Kept, PartHeld, PartOrNone, GivesPart, PartAnswer, MakesPart}
 use Rattle.building.proofs.OneUnion.{brings_one, own_one, own_parts_one, no_own, any_no_kind, union_no_kind}
 use Rattle.building.proofs.InOneForm.{front_or_end, flat_of, flat_brings, union_kinds, first_form, other_forms, members_forms}
-use Rattle.building.proofs.Same.{known}
+use Rattle.building.proofs.Same.{known, run_from}
 use Rattle.building.proofs.Weigh.{next}
 use Rattle.building.proofs.OneMore.{agree, in_front, at_end, stored_count}
 use Rattle.building.proofs.AllMembers.{then_assoc, then_none, no_others}
@@ -138,21 +139,34 @@ run_in {es} {t} (run_more {first} x r) (in_other i) =
 held_as_any : {es : List TypeEntry} {n : ℕ} {t : Ty} → Is es n Any t → t ≡ any
 held_as_any is_any = refl
 
-pub part_any : {es : List TypeEntry} {n : ℕ} {e p : TypeEntry} {side : Side} {r : Bool} → ((t : Ty) → Is es n e t → PartHeld es n side t p) → Decides r (p ≡ Any) → SaysPartAny es n e side r
-part_any {es} {n} {p} {side} f d t h =
-    let q = f t h in (
+pub part_any : {es : List TypeEntry} {n : ℕ} {e p : TypeEntry} {side : Side} {r : Bool} → Decides r (p ≡ Any) → GivesPart es n e side (Some p) → SaysPartAny es n e side r
+part_any {es} {n} {p} {side} d f le t h =
+    let q = f le t h in (
       λ e. subst (λ x. OwnPart side t x) (held_as_any (known (d.0 e) q.holds)) q.is_part,
       λ o. d.1 (any_held (subst (λ x. Is es n p x) (own_one q.is_part o) q.holds)),
     )
 
-pub no_part_any : {es : List TypeEntry} {n : ℕ} {e : TypeEntry} {side : Side} → ((t : Ty) → Is es n e t → (p : Ty) → OwnPart side t p → ⊥) → SaysPartAny es n e side false
-no_part_any f t h = (λ e. absurd (both_ways false refl e), λ o. absurd (f t h any o))
+pub no_part_any : {es : List TypeEntry} {n : ℕ} {e : TypeEntry} {side : Side} → GivesPart es n e side None → SaysPartAny es n e side false
+no_part_any f le t h = (λ o. absurd (both_ways false refl o), λ o. absurd (f le t h any o))
 
-pub some_any : (es : List TypeEntry) (first n k : ℕ) (side : Side) → k < n → SaysPartAny es (first + k) (entry_at es (first + k)) side true → SaysAnyPart es first n side true
-some_any es first n k side lt d ts r = (λ e. let w = run_at k r lt in (w.0, w.1, (d w.0 w.2).0 refl), λ o. refl)
+-- of a type that the table holds
+pub taken_part : {es : List TypeEntry} {k : ℕ} {side : Side} {r : Bool} (x : Root) → x ≡ root_at es k → SaysPartAny es x.used x.entry side r → SaysPartAny es k (entry_at es k) side r
+taken_part {es} {side} {r} x at f = subst (λ z. SaysPartAny es z.used z.entry side r) at f
 
-pub none_any : (es : List TypeEntry) (first n : ℕ) (side : Side) → ((k : ℕ) → k < n → SaysPartAny es (first + k) (entry_at es (first + k)) side false) → SaysAnyPart es first n side false
-none_any es first n side d ts r = (λ e. absurd (both_ways false refl e), λ o. let w = run_in r o.1 in absurd (both_ways false refl ((d w.0 w.1 o.0 w.2).1 o.2)))
+pub some_any : (es : List TypeEntry) (first end k : ℕ) (side : Side) → first ≤ k → k < end → SaysPartAny es k (entry_at es k) side true → SaysAnyPart es first end side true
+some_any es first end k side low lt d up room ts r = (
+  λ e.
+      let w = run_at (k - first) r (omega arith) in
+      let i : first + (k - first) ≡ k = omega arith in
+      (w.0, w.1, (d (omega arith) w.0 (subst (λ i. Is es i (entry_at es i) w.0) i w.2)).0 refl),
+  λ o. refl,
+)
+
+pub none_any : (es : List TypeEntry) (first end : ℕ) (side : Side) → ((k : ℕ) → first ≤ k → k < end → SaysPartAny es k (entry_at es k) side false) → SaysAnyPart es first end side false
+none_any es first end side d up room ts r = (
+  λ e. absurd (both_ways false refl e),
+  λ o. let w = run_in r o.1 in let lt = w.1 in absurd (both_ways false refl ((d (first + w.0) (omega arith) (omega arith) (omega arith) o.0 w.2).1 o.2)),
+)
 
 -- one part added
 nothing_brought : {xs : Types} → Brings no_types xs → xs ≡ no_types
@@ -192,39 +206,37 @@ split_brings (t and ts) us (brings_any b) = let r = split_brings ts us b in (any
 split_brings (t and ts) us (brings_itself k b) = let r = split_brings ts us b in (t and r.0, r.1, brings_itself k r.2, r.3, ap (λ x. t and x) r.4)
 split_brings (t and ts) us (brings_members {xs} c b) = let r = split_brings ts us b in (xs then r.0, r.1, brings_members c r.2, r.3, ap (λ x. xs then x) r.4 ∙ sym (then_assoc xs r.0 r.1))
 
--- where the parts of the first k types of a run have been added
-pub record PartWay (es fs : List TypeEntry) (used first size : ℕ) (side : Side) (k n : ℕ) (xs : Types) : Type 0 where
+-- where the parts of the types before the index k of a run have been added
+pub record PartWay (es fs : List TypeEntry) (used end : ℕ) (side : Side) (k n : ℕ) (xs : Types) : Type 0 where
   pub done : Types
   pub left : Types
   pub parts : Types
   pub come : Types
   pub all : xs ≡ (done then come)
-  pub others : Run es (first + k) (size - k) left
+  pub others : Run es k (end - k) left
   pub forms : AllInForm left
   pub own : OwnParts side left parts
   pub brings : Brings parts come
   pub opened : Open fs used n done
 
 abbrev pub Parting : List TypeEntry → List TypeEntry → ℕ → ℕ → ℕ → Side → ℕ → ℕ → Type 0
-Parting es fs used first size side k n =
+Parting es fs used first end side k n =
     (length fs ≡ length es) × Kept es fs used × (used + n ≤ length fs)
-    × ((ts ps xs : Types) → Run es first size ts → AllInForm ts → OwnParts side ts ps → Brings ps xs → (In any xs → ⊥) → PartWay es fs used first size side k n xs)
+    × ((ts ps xs : Types) → Run es first (end - first) ts → AllInForm ts → OwnParts side ts ps → Brings ps xs → (In any xs → ⊥) → PartWay es fs used end side k n xs)
 
-pub none_parted : (es : List TypeEntry) (used first size : ℕ) (side : Side) → used ≤ length es → Parting es es used first size side 0 0
-none_parted es used first size side low = (
+pub none_parted : (es : List TypeEntry) (used first end : ℕ) (side : Side) → used ≤ length es → Parting es es used first end side first 0
+none_parted es used first end side low = (
   refl,
   λ j lt. refl,
   omega arith,
   λ ts ps xs r fs o b free.
-      let e : first ≡ first + 0 = omega arith in
-      let f : size ≡ size - 0 = omega arith in
       record {
         done = no_types;
         left = ts;
         parts = ps;
         come = xs;
         all = refl;
-        others = subst (λ x. Run es x (size - 0) ts) e (subst (λ x. Run es first x ts) f r);
+        others = r;
         forms = fs;
         own = o;
         brings = b;
@@ -232,10 +244,10 @@ none_parted es used first size side low = (
       },
 )
 
-module _ (es fs : List TypeEntry) (used first size : ℕ) (side : Side) (k n : ℕ) (lt : k < size) (low : first + size ≤ used) (a : Parting es fs used first size side k n) where
-  member_held : {t : Ty} → Is es (first + k) (entry_at es (first + k)) t → Is fs used (entry_at fs (first + k)) t
+module _ (es fs : List TypeEntry) (used first end : ℕ) (side : Side) (k n : ℕ) (lt : k < end) (low : end ≤ used) (a : Parting es fs used first end side k n) where
+  member_held : {t : Ty} → Is es k (entry_at es k) t → Is fs used (entry_at fs k) t
   member_held {t} x =
-      let e : entry_at fs (first + k) ≡ entry_at es (first + k) = a.1 (first + k) (omega arith) in
+      let e : entry_at fs k ≡ entry_at es k = a.1 k (omega arith) in
       subst (λ y. Is fs used y t) (sym e) (is_kept (agree a.1) (higher used (omega arith) x))
 
   -- the next type, its parts and what they bring
@@ -248,17 +260,17 @@ module _ (es fs : List TypeEntry) (used first size : ℕ) (side : Side) (k n : �
     t : Ty
     ps : Types
     all : xs ≡ (done then (ys then zs))
-    held : Is es (first + k) (entry_at es (first + k)) t
+    held : Is es k (entry_at es k) t
     form : InForm t
     own : OwnParts side (t and no_types) ps
     brings : Brings ps ys
-    others : Run es (suc (first + k)) ((size - k) - 1) left
+    others : Run es (suc k) ((end - k) - 1) left
     forms : AllInForm left
     owns : OwnParts side left parts
     rest : Brings parts zs
     opened : Open fs used n done
 
-  next_part : {xs : Types} → PartWay es fs used first size side k n xs → NextPart xs
+  next_part : {xs : Types} → PartWay es fs used end side k n xs → NextPart xs
   next_part {xs} w =
       let q = next (omega arith) w.others in
       let fs' = subst (λ x. AllInForm x) q.2 w.forms in
@@ -287,22 +299,22 @@ module _ (es fs : List TypeEntry) (used first size : ℕ) (side : Side) (k n : �
   not_any : {xs : Types} (p : NextPart xs) → (In any xs → ⊥) → In any p.ys → ⊥
   not_any p free i = free (subst (λ x. In any x) (sym p.all) (at_end p.done (in_front p.zs i)))
 
-  pub more_parted : {gs : List TypeEntry} {j : ℕ} → length gs ≡ length fs → Kept fs gs used → used + j ≤ length gs → AddsPart fs gs used n (entry_at fs (first + k)) side (Some j) → Parting es gs used first size side (k + 1) j
-  more_parted {gs} {j} long kept within d = (
+  pub more_parted : {gs : List TypeEntry} {i j : ℕ} → i ≡ k + 1 → length gs ≡ length fs → Kept fs gs used → used + j ≤ length gs → AddsPart fs gs used n (entry_at fs k) side (Some j) → Parting es gs used first end side i j
+  more_parted {gs} {i} {j} at-next long kept within d = (
     long ∙ a.0,
-    λ i l. kept i l ∙ a.1 i l,
+    λ q l. kept q l ∙ a.1 q l,
     within,
     λ ts ps xs r forms o b free.
         let p = next_part (a.3 ts ps xs r forms o b free) in
-        let e : suc (first + k) ≡ first + (k + 1) = omega arith in
-        let f : (size - k) - 1 ≡ size - (k + 1) = omega arith in
+        let e : suc k ≡ i = omega arith in
+        let f : (end - k) - 1 ≡ end - i = omega arith in
         record {
           done = p.done then p.ys;
           left = p.left;
           parts = p.parts;
           come = p.zs;
           all = p.all ∙ sym (then_assoc p.done p.ys p.zs);
-          others = subst (λ x. Run es x (size - (k + 1)) p.left) e (subst (λ x. Run es (suc (first + k)) x p.left) f p.others);
+          others = subst (λ x. Run es x (end - i) p.left) e (subst (λ x. Run es (suc k) x p.left) f p.others);
           forms = p.forms;
           own = p.owns;
           brings = p.rest;
@@ -310,7 +322,7 @@ module _ (es fs : List TypeEntry) (used first size : ℕ) (side : Side) (k n : �
         },
   )
 
-  pub parts_none_fit : AddsPart fs fs used n (entry_at fs (first + k)) side None → AddsParts es es used first size side None
+  pub parts_none_fit : AddsPart fs fs used n (entry_at fs k) side None → AddsParts es es used first end side None
   parts_none_fit d ts ps xs r forms o b free ms has =
       let p = next_part (a.3 ts ps xs r forms o b free) in
       let e = a.0 in
@@ -320,18 +332,18 @@ module _ (es fs : List TypeEntry) (used first size : ℕ) (side : Side) (k n : �
 no_parts_left : {s : Side} {ps : Types} → OwnParts s no_types ps → ps ≡ no_types
 no_parts_left parts_none = refl
 
-pub all_parted : (es fs : List TypeEntry) (used first size : ℕ) (side : Side) (k n : ℕ) → size ≤ k → Parting es fs used first size side k n → AddsParts es fs used first size side (Some n)
-all_parted es fs used first size side k n le a ts ps xs r forms o b free =
+pub all_parted : (es fs : List TypeEntry) (used first end : ℕ) (side : Side) (k n : ℕ) → end - k ≡ 0 → Parting es fs used first end side k n → AddsParts es fs used first end side (Some n)
+all_parted es fs used first end side k n none a ts ps xs r forms o b free =
     let w = a.3 ts ps xs r forms o b free in
-    let e : w.left ≡ no_types = no_others (size - k) (omega arith) w.others in
+    let e : w.left ≡ no_types = no_others (end - k) none w.others in
     let f : w.parts ≡ no_types = no_parts_left (subst (λ x. OwnParts side x w.parts) e w.own) in
     let g : w.come ≡ no_types = nothing_brought (subst (λ x. Brings x w.come) f w.brings) in
     subst (λ x. Open fs used n x) (sym (w.all ∙ ap (λ x. w.done then x) g ∙ then_none w.done)) w.opened
 
 -- the ways out of `part_of`
-pub own_made : (es : List TypeEntry) (used : ℕ) (e p : TypeEntry) (side : Side) → ((t : Ty) → Is es used e t → PartHeld es used side t p) → MakesPart es es used e side (Part (record { entry = p; used = used }))
+pub own_made : (es : List TypeEntry) (used : ℕ) (e p : TypeEntry) (side : Side) → GivesPart es used e side (Some p) → MakesPart es es used e side (Ok (Some (record { entry = p; used = used })))
 own_made es used e p side f low t h form =
-    let q = f t h in
+    let q = f low t h in
     let w = some_weight q.part in
     record { made = q.part; is_part = part_own q.is_part; in_form = own_form q.is_part form; holds = q.holds; more = omega arith; within = low; light = omega arith; filled = filled_none es used }
 
@@ -342,8 +354,8 @@ single_part {es} {n} {e} single h (part_union o u) = go refl h
     go : {A : Type 0} {x : TypeEntry} {t : Ty} {ts : Types} → e ≡ x → Is es n x (union t ts) → A
     go p (is_union low r) = absurd (single _ _ p)
 
-pub own_lacking : (es : List TypeEntry) (used : ℕ) (e : TypeEntry) (side : Side) → ((first size : ℕ) → e ≡ Union first size → ⊥) → ((t : Ty) → Is es used e t → (p : Ty) → OwnPart side t p → ⊥) → MakesPart es es used e side Lacking
-own_lacking es used e side single none low t h form p o = none t h p (single_part single h o)
+pub own_lacking : (es : List TypeEntry) (used : ℕ) (e : TypeEntry) (side : Side) → ((first size : ℕ) → e ≡ Union first size → ⊥) → GivesPart es used e side None → MakesPart es es used e side (Ok None)
+own_lacking es used e side single none low t h form p o = none low t h p (single_part single h o)
 
 -- the parts of the members of a union in form
 record PartsOf (es : List TypeEntry) (first size : ℕ) (side : Side) (t : Ty) : Type 0 where
@@ -378,30 +390,33 @@ united_some b (union_any c i) = (any, subst (λ x. In any x) (brings_one c b) i)
 united_some b (union_one {t} c m) = (t, subst (λ x. In t x) (brings_one c b) (m.only t in_first))
 united_some b (union_more {t} c m) = (t, subst (λ x. In t x) (brings_one c b) (m.only t in_first))
 
-module _ (es : List TypeEntry) (used first size : ℕ) (e : TypeEntry) (side : Side) (is : e ≡ Union first size) where
-  pub any_made : SaysAnyPart es first size side true → MakesPart es es used e side (Part (record { entry = Any; used = used }))
+module _ (es : List TypeEntry) (used first size from end : ℕ) (e : TypeEntry) (side : Side) (is : e ≡ Union first size) (at : from ≡ first) (over : end ≡ first + size) (room : end ≤ used) (long : used ≤ length es) where
+  run_here : {ts : Types} → Run es first size ts → Run es from (end - from) ts
+  run_here r = run_from from end at over r
+
+  pub any_made : SaysAnyPart es from end side true → MakesPart es es used e side (Ok (Some (record { entry = Any; used = used })))
   any_made d low t h form =
       let q = parts_of side (known is h) form in
-      let w = (d (q.head and q.tail) q.run).0 refl in
+      let w = (d (omega arith) (omega arith) (q.head and q.tail) (run_here q.run)).0 refl in
       let u = union_any q.brings (any_arrives q.brings (own_in q.own w.1 w.2)) in
       record { made = any; is_part = is_union_part q u; in_form = form_any; holds = is_any; more = omega arith; within = low; light = omega arith; filled = filled_none es used }
 
-  module _ (d : SaysAnyPart es first size side false) where
+  module _ (d : SaysAnyPart es from end side false) where
     no_any : {t : Ty} (q : PartsOf es first size side t) → In any q.xs → ⊥
     no_any q i =
         let w = own_from q.own (any_given q.brings (own_forms q.own q.members_form) i) in
-        both_ways false refl ((d (q.head and q.tail) q.run).1 w)
+        both_ways false refl ((d (omega arith) (omega arith) (q.head and q.tail) (run_here q.run)).1 w)
 
-    pub no_room_made : AddsParts es es used first size side None → MakesPart es es used e side NoRoom
-    no_room_made f low t h form = go q.ps refl
+    pub no_room_made : AddsParts es es used from end side None → (n : NoRoom) → MakesPart es es used e side (Err n)
+    no_room_made f n low t h form = go q.ps refl
       where
         q : PartsOf es first size side t
         q = parts_of side (known is h) form
 
         short : HasNoRoom es used q.xs
-        short = f (q.head and q.tail) q.ps q.xs q.run q.members_form q.own q.brings (no_any q)
+        short = f (q.head and q.tail) q.ps q.xs (run_here q.run) q.members_form q.own q.brings (no_any q)
 
-        go : (ps : Types) → q.ps ≡ ps → PartAnswer es es used side t NoRoom
+        go : (ps : Types) → q.ps ≡ ps → PartAnswer es es used side t (Err n)
         go no_types g =
             let none : q.xs ≡ no_types = nothing_brought (subst (λ x. Brings x q.xs) g q.brings) in
             let s = short no_types (λ u i. subst (λ x. In u x) none i) in
@@ -411,11 +426,11 @@ module _ (es : List TypeEntry) (used first size : ℕ) (e : TypeEntry) (side : S
             let v = subst (λ x. UnionOf x u.0) (sym g) u.1 in
             (u.0, is_union_part q v, too_heavy es used q.brings (no_any q) short v)
 
-    module _ (fs : List TypeEntry) (n : ℕ) (f : AddsParts es fs used first size side (Some n)) where
+    module _ (fs : List TypeEntry) (n : ℕ) (f : AddsParts es fs used from end side (Some n)) where
       open_parts : {t : Ty} (q : PartsOf es first size side t) → Open fs used n q.xs
-      open_parts q = f (q.head and q.tail) q.ps q.xs q.run q.members_form q.own q.brings (no_any q)
+      open_parts q = f (q.head and q.tail) q.ps q.xs (run_here q.run) q.members_form q.own q.brings (no_any q)
 
-      pub union_lacking : n ≡ 0 → MakesPart es fs used e side Lacking
+      pub union_lacking : n ≡ 0 → MakesPart es fs used e side (Ok None)
       union_lacking zero_is low t h form p o =
           let q = parts_of side (known is h) form in
           let u = union_part q.own (subst (λ x. PartOf side x p) q.is_it o) in
@@ -427,7 +442,7 @@ module _ (es : List TypeEntry) (used first size : ℕ) (e : TypeEntry) (side : S
           no_members no_types c i = elim i [ ]
           no_members (m and ms) c i = omega arith
 
-      pub union_part_made : (r : Made) → (n ≡ 0 → ⊥) → Closes fs used n r → MakesPart es fs used e side (Part r)
+      pub union_part_made : (r : Root) → (n ≡ 0 → ⊥) → Closes fs used n r → MakesPart es fs used e side (Ok (Some r))
       union_part_made r some close low t h form =
           let q = parts_of side (known is h) form in
           let m = open_parts q in

@@ -1,18 +1,28 @@
 -- When two entries hold the same type. Assumes nothing.
-use Rattle.std.proofs.Common.{◌≡◌, ℕ, zero, suc, ◌+◌, ◌<◌, ◌≤◌, Bool, true, false, eqb, List, [], ◌∷◌, length, get_or, ℤ, Decides, sym, refl, ap, ◌∙◌, subst, ap₂, add-zero, arith}
+use Rattle.std.proofs.Common.{◌≡◌, ℕ, zero, suc, ◌+◌, ◌-◌, ◌<◌, ◌≤◌, Bool, true, false, ◌⊎◌, List, length, Decides, sym, refl, ap, ◌∙◌, subst, ap₂, inl, inr, ⊎_elim, add-zero, arith}
 use Rattle.std.proofs.lemmas.Bool.{both_ways}
-use Rattle.std.proofs.lemmas.Bool.Decides.{Decides-eqb}
 use Rattle.types.specs.Values.{Decimal, Text}
 use Rattle.types.specs.declared.entries.TypeEntry.{TypeEntry}
-use Rattle.types.specs.declared.entries.TypeEntry.TheVariants.{NumberLiteral, StringLiteral, Function, Pair, List as ListOf, Union}
+use Rattle.types.specs.declared.entries.TypeEntry.TheVariants.{Unused, Any, Number, NumberLiteral, String, StringLiteral, Boolean, True, False, Undefined, Null, Function, Pair, List as ListOf, Union}
 use Rattle.types.specs.Types.{Ty, Types, any, number, number_literal, string, string_literal, boolean, true_literal, false_literal, undefined, null, function, pair, list, union, no_types, ◌and◌}
 use Rattle.types.specs.Table.{entry_at, SaysSame, Is, is_any, is_number, is_number_literal, is_string, is_string_literal, is_boolean, is_true, is_false, is_undefined, is_null, is_function, is_pair, is_list, is_union, Run, run_end, run_more}
 use Rattle.types.proofs.Parts.{same_decimal, same_text}
-use Rattle.building.specs.Entries.{plain_number}
+use Rattle.types.specs.declared.entries.Root.{Root}
+use Rattle.types.specs.Roots.{root_at}
+use Rattle.building.specs.Entries.{SaysSameRuns}
 use Rattle.building.specs.Made.{SaysSameType}
 
 says_no : {es : List TypeEntry} {n m : ℕ} {a b : TypeEntry} → ((s t : Ty) → Is es n a s → Is es m b t → s ≡ t → ⊥) → SaysSameType es n a m b false
 says_no f le le' s t x y = (λ e. absurd (both_ways false refl e), λ e. absurd (f s t x y e))
+
+says_neither : {es : List TypeEntry} {n m : ℕ} {a b : TypeEntry} {r : Bool} → r ≡ false → ((s t : Ty) → Is es n a s → Is es m b t → s ≡ t → ⊥) → SaysSameType es n a m b r
+says_neither neg f le le' s t x y = (λ e. absurd (both_ways false refl (sym neg ∙ e)), λ e. absurd (f s t x y e))
+
+-- the types at two indexes, taken out of the table
+pub at_both : {es : List TypeEntry} {k l : ℕ} {r : Bool} (x y : Root) → x ≡ root_at es k → y ≡ root_at es l → SaysSameType es x.used x.entry y.used y.entry r → SaysSameType es k (entry_at es k) l (entry_at es l) r
+at_both {es} {k} {r} x y p q f =
+    let h = subst (λ z. SaysSameType es z.used z.entry y.used y.entry r) p f in
+    subst (λ z. SaysSameType es k (entry_at es k) z.used z.entry r) q h
 
 pub free : {es : List TypeEntry} {n m : ℕ} {a b : TypeEntry} {r : Bool} → (n ≤ length es → m ≤ length es → (s t : Ty) → Is es n a s → Is es m b t → ⊥) → SaysSameType es n a m b r
 free f le le' s t x y = absurd (f le le' s t x y)
@@ -21,123 +31,97 @@ free f le le' s t x y = absurd (f le le' s t x y)
 pub known : {es : List TypeEntry} {n : ℕ} {a e : TypeEntry} {s : Ty} → a ≡ e → Is es n a s → Is es n e s
 known {es} {n} {s} p h = subst (λ x. Is es n x s) p h
 
--- a test of two numbers that are known otherwise
-pub told : (x y : ℕ) {p q : ℕ} → x ≡ p → y ≡ q → Decides (eqb x y) (p ≡ q)
-told x y a b = let d = Decides-eqb x y in (λ e. sym a ∙ d.0 e ∙ b, λ e. d.1 (a ∙ e ∙ sym b))
+-- the entry of a type without parts; the other types have none
+unfoldable pub leaf : Ty → TypeEntry
+leaf any = Any
+leaf number = Number
+leaf (number_literal d) = NumberLiteral d.digits d.exponent
+leaf string = String
+leaf (string_literal s) = Unused
+leaf boolean = Boolean
+leaf true_literal = True
+leaf false_literal = False
+leaf undefined = Undefined
+leaf null = Null
+leaf (function ps r) = Unused
+leaf (pair a b) = Unused
+leaf (list t) = Unused
+leaf (union t ts) = Unused
 
--- types without parts
-unfoldable pub plains : List Ty
-plains = any ∷ any ∷ number ∷ string ∷ boolean ∷ true_literal ∷ false_literal ∷ undefined ∷ null ∷ []
+leaf_held : {es : List TypeEntry} {n : ℕ} {e : TypeEntry} {t : Ty} → Is es n e t → (leaf t ≡ Unused) ⊎ (e ≡ leaf t)
+unfolding leaf
+leaf_held is_any = inr refl
+leaf_held is_number = inr refl
+leaf_held (is_number_literal p q) = inr (ap₂ NumberLiteral (sym p) (sym q))
+leaf_held is_string = inr refl
+leaf_held (is_string_literal low p u) = inl refl
+leaf_held is_boolean = inr refl
+leaf_held is_true = inr refl
+leaf_held is_false = inr refl
+leaf_held is_undefined = inr refl
+leaf_held is_null = inr refl
+leaf_held (is_function low r x) = inl refl
+leaf_held (is_pair low low' x y) = inl refl
+leaf_held (is_list low x) = inl refl
+leaf_held (is_union low r) = inl refl
 
--- the number of a type without parts
-unfoldable pub tag : Ty → ℕ
-tag any = 1
-tag number = 2
-tag (number_literal d) = 0
-tag string = 3
-tag (string_literal s) = 0
-tag boolean = 4
-tag true_literal = 5
-tag false_literal = 6
-tag undefined = 7
-tag null = 8
-tag (function ps r) = 0
-tag (pair a b) = 0
-tag (list t) = 0
-tag (union t ts) = 0
-
-tagged : {es : List TypeEntry} {n : ℕ} {e : TypeEntry} {t : Ty} → Is es n e t → plain_number e ≡ tag t
-unfolding tag
-tagged is_any = refl
-tagged is_number = refl
-tagged (is_number_literal p q) = refl
-tagged is_string = refl
-tagged (is_string_literal low p u) = refl
-tagged is_boolean = refl
-tagged is_true = refl
-tagged is_false = refl
-tagged is_undefined = refl
-tagged is_null = refl
-tagged (is_function low r x) = refl
-tagged (is_pair low low' x y) = refl
-tagged (is_list low x) = refl
-tagged (is_union low r) = refl
-
-pub by_tag : (t : Ty) → 0 < tag t → t ≡ get_or plains (tag t) any
-unfolding tag plains
-by_tag any lt = refl
-by_tag number lt = refl
-by_tag (number_literal d) lt = absurd (omega arith)
-by_tag string lt = refl
-by_tag (string_literal s) lt = absurd (omega arith)
-by_tag boolean lt = refl
-by_tag true_literal lt = refl
-by_tag false_literal lt = refl
-by_tag undefined lt = refl
-by_tag null lt = refl
-by_tag (function ps r) lt = absurd (omega arith)
-by_tag (pair a b) lt = absurd (omega arith)
-by_tag (list t) lt = absurd (omega arith)
-by_tag (union t ts) lt = absurd (omega arith)
+no_type : {es : List TypeEntry} {n : ℕ} {t : Ty} → Is es n Unused t → ⊥
+no_type h = elim h [ ]
 
 module _ {a : TypeEntry}
-    (n : (digits : ℕ) (exponent : ℤ) → a ≡ NumberLiteral digits exponent → ⊥)
     (s : (first size : ℕ) → a ≡ StringLiteral first size → ⊥)
     (f : (first size : ℕ) → a ≡ Function first size → ⊥)
     (p : (head tail : ℕ) → a ≡ Pair head tail → ⊥)
     (l : (element : ℕ) → a ≡ ListOf element → ⊥)
     (u : (first size : ℕ) → a ≡ Union first size → ⊥) where
-  has_number : {es : List TypeEntry} {i : ℕ} {e : TypeEntry} {t : Ty} → a ≡ e → Is es i e t → 0 < tag t
-  unfolding tag
-  has_number e is_any = omega arith
-  has_number e is_number = omega arith
-  has_number e (is_number_literal x y) = absurd (n _ _ e)
-  has_number e is_string = omega arith
-  has_number e (is_string_literal low x y) = absurd (s _ _ e)
-  has_number e is_boolean = omega arith
-  has_number e is_true = omega arith
-  has_number e is_false = omega arith
-  has_number e is_undefined = omega arith
-  has_number e is_null = omega arith
-  has_number e (is_function low r x) = absurd (f _ _ e)
-  has_number e (is_pair low low' x y) = absurd (p _ _ e)
-  has_number e (is_list low x) = absurd (l _ e)
-  has_number e (is_union low r) = absurd (u _ _ e)
+  leaf_is : {es : List TypeEntry} {i : ℕ} {e : TypeEntry} {t : Ty} → a ≡ e → Is es i e t → e ≡ leaf t
+  unfolding leaf
+  leaf_is e is_any = refl
+  leaf_is e is_number = refl
+  leaf_is e (is_number_literal x y) = ap₂ NumberLiteral (sym x) (sym y)
+  leaf_is e is_string = refl
+  leaf_is e (is_string_literal low x y) = absurd (s _ _ e)
+  leaf_is e is_boolean = refl
+  leaf_is e is_true = refl
+  leaf_is e is_false = refl
+  leaf_is e is_undefined = refl
+  leaf_is e is_null = refl
+  leaf_is e (is_function low r x) = absurd (f _ _ e)
+  leaf_is e (is_pair low low' x y) = absurd (p _ _ e)
+  leaf_is e (is_list low x) = absurd (l _ e)
+  leaf_is e (is_union low r) = absurd (u _ _ e)
 
-  -- types without parts are told by their numbers
-  pub plains_same : {es : List TypeEntry} {i j : ℕ} {b : TypeEntry} {r : Bool} → Decides r (plain_number a ≡ plain_number b) → SaysSameType es i a j b r
-  plains_same d le le' x y hx hy =
-      let px = tagged hx in
-      let py = tagged hy in
-      let some = has_number refl hx in (
-        λ e.
-            let q = d.0 e in
-            let g : tag x ≡ tag y = sym px ∙ q ∙ py in
-            by_tag x some ∙ ap (λ k. get_or plains k any) g ∙ sym (by_tag y (omega arith)),
-        λ e. d.1 (px ∙ ap tag e ∙ sym py),
-      )
+  one_leaf : {es : List TypeEntry} {i j : ℕ} {e : TypeEntry} {t v : Ty} → a ≡ e → Is es i e t → Is es j e v → t ≡ v
+  one_leaf e is_any is_any = refl
+  one_leaf e is_number is_number = refl
+  one_leaf e (is_number_literal {d} x y) (is_number_literal {d = c} z w) = ap number_literal (same_decimal d c (x ∙ sym z) (y ∙ sym w))
+  one_leaf e is_string is_string = refl
+  one_leaf e (is_string_literal low x y) h = absurd (s _ _ e)
+  one_leaf e is_boolean is_boolean = refl
+  one_leaf e is_true is_true = refl
+  one_leaf e is_false is_false = refl
+  one_leaf e is_undefined is_undefined = refl
+  one_leaf e is_null is_null = refl
+  one_leaf e (is_function low r x) h = absurd (f _ _ e)
+  one_leaf e (is_pair low low' x y) h = absurd (p _ _ e)
+  one_leaf e (is_list low x) h = absurd (l _ e)
+  one_leaf e (is_union low r) h = absurd (u _ _ e)
 
--- number literals
-pub numbers_same : {es : List TypeEntry} {i j m n : ℕ} {a b : TypeEntry} {e f : ℤ} {r : Bool} → a ≡ NumberLiteral m e → b ≡ NumberLiteral n f → Decides r ((m ≡ n) × (e ≡ f)) → SaysSameType es i a j b r
-numbers_same {es} {i} {j} {m} {n} {a} {b} {e} {f} {r} is js d le le' s t hs ht = go (known is hs) (known js ht)
-  where
-    number_of : {c d : Decimal} → number_literal c ≡ number_literal d → c ≡ d
-    number_of p = cc
+  pub leaves_same : {es : List TypeEntry} {i j : ℕ} {b : TypeEntry} {r : Bool} → Decides r (a ≡ b) → SaysSameType es i a j b r
+  leaves_same {es} {i} {j} {b} d le le' x y hx hy = (
+    λ o. one_leaf refl hx (subst (λ e. Is es j e y) (sym (d.0 o)) hy),
+    λ e.
+        let k : a ≡ leaf x = leaf_is refl hx in
+        ⊎_elim
+        (λ n. absurd (no_type (subst (λ z. Is es i z x) (k ∙ ap leaf e ∙ n) hx)))
+        (λ m. d.1 (k ∙ ap leaf e ∙ sym m))
+        (leaf_held hy),
+  )
 
-    go : {s t : Ty} → Is es i (NumberLiteral m e) s → Is es j (NumberLiteral n f) t → Decides r (s ≡ t)
-    go (is_number_literal {d = x} p q) (is_number_literal {d = y} u v) = (
-      λ o. ap number_literal (same_decimal x y (p ∙ (d.0 o).0 ∙ sym u) (q ∙ (d.0 o).1 ∙ sym v)),
-      λ o. d.1 (sym p ∙ ap (λ z. z.digits) (number_of o) ∙ u, sym q ∙ ap (λ z. z.exponent) (number_of o) ∙ v),
-    )
-
-pub not_number : {es : List TypeEntry} {i j m : ℕ} {a b : TypeEntry} {e : ℤ} → a ≡ NumberLiteral m e → ((digits : ℕ) (exponent : ℤ) → b ≡ NumberLiteral digits exponent → ⊥) → SaysSameType es i a j b false
-not_number {es} {i} {j} {m} {a} {b} {e} is n = says_no (λ s t hs ht q. go refl (known is hs) q ht)
-  where
-    back : {d : Decimal} {f : TypeEntry} → b ≡ f → Is es j f (number_literal d) → ⊥
-    back p (is_number_literal u v) = n _ _ p
-
-    go : {s t : Ty} {f : TypeEntry} → b ≡ f → Is es i (NumberLiteral m e) s → s ≡ t → Is es j f t → ⊥
-    go {f} p (is_number_literal u v) q x = back p (subst (λ z. Is es j f z) (sym q) x)
+-- two entries that are not the same, and hold different types
+pub not_alike : {es : List TypeEntry} {i j : ℕ} {a b : TypeEntry} (r : Bool) → Decides r (a ≡ b) → (a ≡ b → ⊥) → SaysSameType es i a j b false → SaysSameType es i a j b r
+not_alike true d ne f = absurd (ne (d.0 refl))
+not_alike false d ne f = f
 
 -- string literals
 string_of : {x y : Text} → string_literal x ≡ string_literal y → x ≡ y
@@ -153,8 +137,8 @@ strings_same {es} {i} {j} {f} {g} {n} {a} {b} {r} is js d le le' s t hs ht = go 
           λ o. same.1 (ap (λ z. z.units) (string_of o)),
         )
 
-pub lengths_apart : {es : List TypeEntry} {i j f m g n : ℕ} {a b : TypeEntry} → a ≡ StringLiteral f m → b ≡ StringLiteral g n → (m ≡ n → ⊥) → SaysSameType es i a j b false
-lengths_apart {es} {i} {j} {f} {m} {g} {n} is js ne = says_no (λ s t hs ht. go (known is hs) (known js ht))
+pub lengths_apart : {es : List TypeEntry} {i j f m g n : ℕ} {a b : TypeEntry} {r : Bool} → a ≡ StringLiteral f m → b ≡ StringLiteral g n → r ≡ false → (m ≡ n → ⊥) → SaysSameType es i a j b r
+lengths_apart {es} {i} {j} {f} {m} {g} {n} is js neg ne = says_neither neg (λ s t hs ht. go (known is hs) (known js ht))
   where
     go : {s t : Ty} → Is es i (StringLiteral f m) s → Is es j (StringLiteral g n) t → s ≡ t → ⊥
     go (is_string_literal lx p u) (is_string_literal ly q v) o = ne (sym p ∙ ap (λ z. length z.units) (string_of o) ∙ q)
@@ -182,13 +166,13 @@ tails_of : {a b c d : Ty} → pair a b ≡ pair c d → b ≡ d
 tails_of p = cc
 
 module _ {es : List TypeEntry} {i j head tail h t : ℕ} {a b : TypeEntry} (is : a ≡ Pair head tail) (js : b ≡ Pair h t) where
-  pub heads_apart : SaysSameType es head (entry_at es head) h (entry_at es h) false → SaysSameType es i a j b false
-  heads_apart d le le' x y hx hy = go (known is hx) (known js hy)
+  pub heads_apart : {r : Bool} → r ≡ false → SaysSameType es head (entry_at es head) h (entry_at es h) r → SaysSameType es i a j b r
+  heads_apart {r} neg d le le' x y hx hy = go (known is hx) (known js hy)
     where
-      go : {x y : Ty} → Is es i (Pair head tail) x → Is es j (Pair h t) y → Decides false (x ≡ y)
+      go : {x y : Ty} → Is es i (Pair head tail) x → Is es j (Pair h t) y → Decides r (x ≡ y)
       go (is_pair low low' p q) (is_pair low'' low''' u v) =
           let e = d (omega arith) (omega arith) _ _ p u in
-          (λ o. absurd (both_ways false refl o), λ o. e.1 (heads_of o))
+          (λ o. absurd (both_ways false refl (sym neg ∙ o)), λ o. e.1 (heads_of o))
 
   pub tails_same : {r : Bool} → SaysSameType es head (entry_at es head) h (entry_at es h) true → SaysSameType es tail (entry_at es tail) t (entry_at es t) r → SaysSameType es i a j b r
   tails_same {r} c d le le' x y hx hy = go (known is hx) (known js hy)
@@ -275,6 +259,32 @@ runs_apart k run_end run_end low low' lt d e = omega arith
 runs_apart {es} {f} {g} zero (run_more x r) (run_more y q) low low' lt d e = both_ways false refl ((here es f g false d (omega arith) (omega arith) _ _ x y).1 (first_of e))
 runs_apart {es} {f} {g} (suc k) (run_more x r) (run_more y q) low low' lt d e = runs_apart k r q (omega arith) (omega arith) (omega arith) (further es f g k false d) (others_of e)
 
+-- two runs by the indexes where they begin and end
+module _ {es : List TypeEntry} {first end other stop : ℕ} where
+  pub runs_unlike : (end - first ≡ stop - other → ⊥) → SaysSameRuns es first end other stop false
+  runs_unlike ne up on low high ts us r q = (
+    λ o. absurd (both_ways false refl o),
+    λ e. absurd (ne (sym (run_counted r) ∙ ap counted e ∙ run_counted q)),
+  )
+
+  pub runs_alike : end - first ≡ stop - other → ((k : ℕ) → k < end - first → At es first other k true) → SaysSameRuns es first end other stop true
+  runs_alike n all up on low high ts us r q = (
+    λ o. runs_same r (subst (λ k. Run es other k us) (sym n) q) (omega arith) (omega arith) all,
+    λ e. refl,
+  )
+
+  pub runs_differ : (k : ℕ) → end - first ≡ stop - other → k < end - first → At es first other k false → SaysSameRuns es first end other stop false
+  runs_differ k n lt d up on low high ts us r q = (
+    λ o. absurd (both_ways false refl o),
+    λ e. absurd (runs_apart k r (subst (λ k. Run es other k us) (sym n) q) (omega arith) (omega arith) lt d e),
+  )
+
+-- a run by the indexes where it begins and ends
+pub run_from : {es : List TypeEntry} {first size : ℕ} {ts : Types} (from end : ℕ) → from ≡ first → end ≡ first + size → Run es first size ts → Run es from (end - from) ts
+run_from {es} {first} {size} {ts} from end e f r =
+    let n : size ≡ end - from = omega arith in
+    subst (λ k. Run es k (end - from) ts) (sym e) (subst (λ k. Run es first k ts) n r)
+
 -- functions
 params_of : {ps qs : Types} {r u : Ty} → function ps r ≡ function qs u → ps ≡ qs
 params_of p = cc
@@ -288,26 +298,23 @@ function_low {es} {i} {f} {n} is h = go (known is h)
     go : {s : Ty} → Is es i (Function f n) s → f + n < i
     go (is_function low r x) = low
 
-pub parameters_apart : {es : List TypeEntry} {i j f m g n : ℕ} {a b : TypeEntry} → a ≡ Function f m → b ≡ Function g n → (m ≡ n → ⊥) → SaysSameType es i a j b false
-parameters_apart {es} {i} {j} {f} {m} {g} {n} is js ne = says_no (λ s t hs ht. go (known is hs) (known js ht))
-  where
-    go : {s t : Ty} → Is es i (Function f m) s → Is es j (Function g n) t → s ≡ t → ⊥
-    go (is_function low r x) (is_function low' q y) o = ne (sym (run_counted r) ∙ ap counted (params_of o) ∙ run_counted q)
-
-module _ {es : List TypeEntry} {i j f g n : ℕ} {a b : TypeEntry} (is : a ≡ Function f n) (js : b ≡ Function g n) where
-  pub parameter_apart : (k : ℕ) → k < n → At es f g k false → SaysSameType es i a j b false
-  parameter_apart k lt d le le' s t hs ht = go (known is hs) (known js ht)
+module _ {es : List TypeEntry} {i j f m g n : ℕ} {a b : TypeEntry} (is : a ≡ Function f m) (js : b ≡ Function g n) (from end other stop : ℕ) (e : from ≡ f) (e' : end ≡ f + m) (h : other ≡ g) (h' : stop ≡ g + n) where
+  pub parameters_apart : {r : Bool} → r ≡ false → SaysSameRuns es from end other stop r → SaysSameType es i a j b r
+  parameters_apart {r} neg d le le' s t hs ht = go (known is hs) (known js ht)
     where
-      go : {s t : Ty} → Is es i (Function f n) s → Is es j (Function g n) t → Decides false (s ≡ t)
-      go (is_function low r x) (is_function low' q y) = (λ o. absurd (both_ways false refl o), λ o. absurd (runs_apart k r q (omega arith) (omega arith) lt d (params_of o)))
+      go : {s t : Ty} → Is es i (Function f m) s → Is es j (Function g n) t → Decides r (s ≡ t)
+      go (is_function {ps} low p x) (is_function {ps = qs} low' q y) =
+          let w = d (omega arith) (omega arith) (omega arith) (omega arith) ps qs (run_from from end e e' p) (run_from other stop h h' q) in
+          (λ o. absurd (both_ways false refl (sym neg ∙ o)), λ o. w.1 (params_of o))
 
-  pub results_same : {r : Bool} → ((k : ℕ) → k < n → At es f g k true) → At es f g n r → SaysSameType es i a j b r
-  results_same {r} all d le le' s t hs ht = go (known is hs) (known js ht)
+  pub results_same : {r : Bool} → SaysSameRuns es from end other stop true → SaysSameType es (f + m) (entry_at es (f + m)) (g + n) (entry_at es (g + n)) r → SaysSameType es i a j b r
+  results_same {r} c d le le' s t hs ht = go (known is hs) (known js ht)
     where
-      go : {s t : Ty} → Is es i (Function f n) s → Is es j (Function g n) t → Decides r (s ≡ t)
-      go (is_function low p x) (is_function low' q y) =
-          let e = d (omega arith) (omega arith) _ _ x y in
-          (λ o. ap₂ function (runs_same p q (omega arith) (omega arith) all) (e.0 o), λ o. e.1 (result_of o))
+      go : {s t : Ty} → Is es i (Function f m) s → Is es j (Function g n) t → Decides r (s ≡ t)
+      go (is_function {ps} low p x) (is_function {ps = qs} low' q y) =
+          let v = c (omega arith) (omega arith) (omega arith) (omega arith) ps qs (run_from from end e e' p) (run_from other stop h h' q) in
+          let w = d (omega arith) (omega arith) _ _ x y in
+          (λ o. ap₂ function (v.0 refl) (w.0 o), λ o. w.1 (result_of o))
 
 pub not_function : {es : List TypeEntry} {i j f n : ℕ} {a b : TypeEntry} → a ≡ Function f n → ((first size : ℕ) → b ≡ Function first size → ⊥) → SaysSameType es i a j b false
 not_function {es} {i} {j} {f} {n} {a} {b} is none = says_no (λ s t hs ht q. go refl (known is hs) q ht)
@@ -331,24 +338,13 @@ union_low {es} {i} {f} {n} is h = go (known is h)
     go : {s : Ty} → Is es i (Union f n) s → f + n ≤ i
     go (is_union low r) = low
 
-pub members_apart : {es : List TypeEntry} {i j f m g n : ℕ} {a b : TypeEntry} → a ≡ Union f m → b ≡ Union g n → (m ≡ n → ⊥) → SaysSameType es i a j b false
-members_apart {es} {i} {j} {f} {m} {g} {n} is js ne = says_no (λ s t hs ht. go (known is hs) (known js ht))
+pub members_same : {es : List TypeEntry} {i j f m g n : ℕ} {a b : TypeEntry} {r : Bool} → a ≡ Union f m → b ≡ Union g n → (from end other stop : ℕ) → from ≡ f → end ≡ f + m → other ≡ g → stop ≡ g + n → SaysSameRuns es from end other stop r → SaysSameType es i a j b r
+members_same {es} {i} {j} {f} {m} {g} {n} {a} {b} {r} is js from end other stop e e' h h' d le le' s t hs ht = go (known is hs) (known js ht)
   where
-    go : {s t : Ty} → Is es i (Union f m) s → Is es j (Union g n) t → s ≡ t → ⊥
-    go (is_union low r) (is_union low' q) o = ne (sym (run_counted r) ∙ ap counted (members_of o) ∙ run_counted q)
-
-module _ {es : List TypeEntry} {i j f g n : ℕ} {a b : TypeEntry} (is : a ≡ Union f n) (js : b ≡ Union g n) where
-  pub member_apart : (k : ℕ) → k < n → At es f g k false → SaysSameType es i a j b false
-  member_apart k lt d le le' s t hs ht = go (known is hs) (known js ht)
-    where
-      go : {s t : Ty} → Is es i (Union f n) s → Is es j (Union g n) t → Decides false (s ≡ t)
-      go (is_union low r) (is_union low' q) = (λ o. absurd (both_ways false refl o), λ o. absurd (runs_apart k r q (omega arith) (omega arith) lt d (members_of o)))
-
-  pub members_same : ((k : ℕ) → k < n → At es f g k true) → SaysSameType es i a j b true
-  members_same all le le' s t hs ht = go (known is hs) (known js ht)
-    where
-      go : {s t : Ty} → Is es i (Union f n) s → Is es j (Union g n) t → Decides true (s ≡ t)
-      go (is_union low p) (is_union low' q) = (λ o. union_of (runs_same p q (omega arith) (omega arith) all), λ o. refl)
+    go : {s t : Ty} → Is es i (Union f m) s → Is es j (Union g n) t → Decides r (s ≡ t)
+    go (is_union {t = x} {ts = xs} low p) (is_union {t = y} {ts = ys} low' q) =
+        let w = d (omega arith) (omega arith) (omega arith) (omega arith) (x and xs) (y and ys) (run_from from end e e' p) (run_from other stop h h' q) in
+        (λ o. union_of (w.0 o), λ o. w.1 (members_of o))
 
 pub not_union : {es : List TypeEntry} {i j f n : ℕ} {a b : TypeEntry} → a ≡ Union f n → ((first size : ℕ) → b ≡ Union first size → ⊥) → SaysSameType es i a j b false
 not_union {es} {i} {j} {f} {n} {a} {b} is none = says_no (λ s t hs ht q. go refl (known is hs) q ht)

@@ -6,7 +6,44 @@ use Rattle.types.specs.Types.{Ty, Types, any, number, number_literal, string, st
 use Rattle.types.proofs.Parts.{same_decimal, same_text}
 use Rattle.building.specs.Unions.{In, in_first, in_other}
 use Rattle.building.proofs.OneUnion.{first_or_other}
-use Rattle.building.proofs.Same.{tag, plains, by_tag}
+
+-- types without parts
+unfoldable pub plains : List Ty
+plains = any ∷ any ∷ number ∷ string ∷ boolean ∷ true_literal ∷ false_literal ∷ undefined ∷ null ∷ []
+
+-- the number of a type without parts
+unfoldable pub tag : Ty → ℕ
+tag any = 1
+tag number = 2
+tag (number_literal d) = 0
+tag string = 3
+tag (string_literal s) = 0
+tag boolean = 4
+tag true_literal = 5
+tag false_literal = 6
+tag undefined = 7
+tag null = 8
+tag (function ps r) = 0
+tag (pair a b) = 0
+tag (list t) = 0
+tag (union t ts) = 0
+
+pub by_tag : (t : Ty) → 0 < tag t → t ≡ get_or plains (tag t) any
+unfolding tag plains
+by_tag any lt = refl
+by_tag number lt = refl
+by_tag (number_literal d) lt = absurd (omega arith)
+by_tag string lt = refl
+by_tag (string_literal s) lt = absurd (omega arith)
+by_tag boolean lt = refl
+by_tag true_literal lt = refl
+by_tag false_literal lt = refl
+by_tag undefined lt = refl
+by_tag null lt = refl
+by_tag (function ps r) lt = absurd (omega arith)
+by_tag (pair a b) lt = absurd (omega arith)
+by_tag (list t) lt = absurd (omega arith)
+by_tag (union t ts) lt = absurd (omega arith)
 
 abbrev Told : {A : Type 0} → A → A → Type 0
 Told x y = (x ≡ y) ⊎ (x ≡ y → ⊥)

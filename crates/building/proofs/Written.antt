@@ -1,5 +1,7 @@
 -- Entries written one after the other. Assumes nothing.
 use Rattle.std.proofs.Common.{◌≡◌, ℕ, ◌+◌, ◌<◌, ◌≤◌, ◌≢◌, List, length, set, sym, refl, ap, ◌∙◌, subst, ⊎_elim, arith, get_or-set_other, get_or-set_same}
+use borrow.Rule.Slice.PartMut.{put_mid}
+use Rattle.std.proofs.lemmas.Grind.{common_steps}
 use Rattle.std.proofs.lemmas.Bool.{cases_eq}
 use Rattle.types.specs.declared.entries.TypeEntry.{TypeEntry}
 use Rattle.types.specs.Types.{Ty}
@@ -21,9 +23,6 @@ kept_held used kept le h = is_kept (record { same = λ k lt. sym (kept k (omega 
 pub kept_more : (es fs : List TypeEntry) (used k : ℕ) (x : TypeEntry) → Kept es fs used → Kept es (set fs (used + k) x) used
 kept_more es fs used k x kept j lt = elsewhere fs (used + k) j x (λ e. omega arith) ∙ kept j lt
 
-pub kept_same : (es fs : List TypeEntry) (used : ℕ) {gs : List TypeEntry} → gs ≡ fs → Kept es fs used → Kept es gs used
-kept_same es fs used e kept j lt = ap (λ xs. entry_at xs j) e ∙ kept j lt
-
 -- what is written at k stands after the k entries before it
 pub written_more : (fs : List TypeEntry) (used k : ℕ) (f : ℕ → TypeEntry) {x : TypeEntry} → used + k < length fs → x ≡ f k → ((j : ℕ) → j < k → entry_at fs (used + j) ≡ f j) → (j : ℕ) → j < k + 1 → entry_at (set fs (used + k) x) (used + j) ≡ f j
 written_more fs used k f {x} room e before j lt =
@@ -31,3 +30,16 @@ written_more fs used k f {x} room e before j lt =
     (λ q. subst (λ i. entry_at (set fs (used + k) x) (used + i) ≡ f i) (sym q) (here fs (used + k) x room ∙ e))
     (λ ne. elsewhere fs (used + k) (used + j) x (λ q. ne (omega arith)) ∙ before j (omega arith))
     (cases_eq j k)
+
+-- a part of the table that is written over
+put_below : (es qs : List TypeEntry) (used k j : ℕ) → used ≤ length es → j < used → entry_at (put_mid used k es qs) j ≡ entry_at es j
+put_below es qs used k j le lt = grind (arith, common_steps)
+
+pub put_holds : (es qs : List TypeEntry) (used k j : ℕ) → used ≤ length es → j < length qs → entry_at (put_mid used k es qs) (used + j) ≡ entry_at qs j
+put_holds es qs used k j le lt = grind (arith, common_steps)
+
+pub put_long : (es qs : List TypeEntry) (used k : ℕ) → used + k ≤ length es → length qs ≡ k → length (put_mid used k es qs) ≡ length es
+put_long es qs used k le e = grind (arith, common_steps)
+
+pub put_kept : (es qs : List TypeEntry) (used k : ℕ) → used ≤ length es → Kept es (put_mid used k es qs) used
+put_kept es qs used k le j lt = put_below es qs used k j le lt

@@ -10,27 +10,29 @@ use Rattle.building.specs.Unions.{◌then◌, Brings, In, Members}
 use Rattle.building.specs.Forms.{InForm, AllInForm}
 use Rattle.building.specs.declared.parts.Side.{Side}
 use Rattle.building.specs.HeadsAndTails.{OwnPart, OwnParts}
-use Rattle.building.specs.declared.unions.Made.{Made}
-use Rattle.building.specs.Made.{UnionMade}
+use Rattle.types.specs.declared.entries.Root.{Root}
+use Rattle.building.specs.Made.{UnionMade, SaysSameType}
+use Rattle.building.specs.Weights.{weight, weights}
+use Rattle.std.specs.Option.{unwrap_or}
 
--- a number of its own for each entry that is a type without parts
-abbrev pub plain_number : TypeEntry → ℕ
-plain_number Unused = 0
-plain_number Any = 1
-plain_number Number = 2
-plain_number (NumberLiteral digits exponent) = 0
-plain_number String = 3
-plain_number (StringLiteral first size) = 0
-plain_number (CodeUnit u) = 0
-plain_number Boolean = 4
-plain_number True = 5
-plain_number False = 6
-plain_number Undefined = 7
-plain_number Null = 8
-plain_number (Function first size) = 0
-plain_number (Pair head tail) = 0
-plain_number (ListOf element) = 0
-plain_number (Union first size) = 0
+-- the answer r for the parts of two types, or that one of them is no type
+abbrev pub SaysSameParts : List TypeEntry → ℕ → TypeEntry → ℕ → TypeEntry → Option Bool → Type 0
+SaysSameParts es n a m b r = SaysSameType es n a m b (unwrap_or r false)
+
+-- r says whether the types at the indexes from first on and below end are those from other on and below stop
+abbrev pub SaysSameRuns : List TypeEntry → ℕ → ℕ → ℕ → ℕ → Bool → Type 0
+SaysSameRuns es first end other stop r =
+    first ≤ end → other ≤ stop → end ≤ length es → stop ≤ length es
+    → (ts us : Types) → Run es first (end - first) ts → Run es other (stop - other) us → Decides r (ts ≡ us)
+
+-- with r more, or one more and the limit where that is less, is the weight of the type e, whose parts stand below n
+abbrev pub SaysPartsWeigh : List TypeEntry → ℕ → TypeEntry → ℕ → Option ℕ → Type 0
+SaysPartsWeigh es n e limit (Some r) = n ≤ length es → (t : Ty) → Is es n e t → min (weight t) limit ≡ min (1 + r) limit
+SaysPartsWeigh es n e limit None = n ≤ length es → (t : Ty) → Is es n e t → ⊥
+
+-- r is the weight of the types at the indexes from first on and below end, or the limit where it is more
+abbrev pub SaysRunWeighs : List TypeEntry → ℕ → ℕ → ℕ → ℕ → Type 0
+SaysRunWeighs es first end limit r = end ≤ length es → (ts : Types) → Run es first (end - first) ts → r ≡ min (weights ts) limit
 
 -- the entries from i on, n of them, are the types of a list, with their parts below first
 pub data Stored (es : List TypeEntry) (first : ℕ) : ℕ → ℕ → Types → Type 0 where
@@ -96,16 +98,16 @@ AddsAll es fs first n e r =
     → Opened es fs first (xs then ys) r
 
 -- the open union of n members in es, closed, is m
-abbrev pub Closes : List TypeEntry → ℕ → ℕ → Made → Type 0
+abbrev pub Closes : List TypeEntry → ℕ → ℕ → Root → Type 0
 Closes es first n m = (ts xs : Types) → AllInForm ts → Brings ts xs → ((t : Ty) × In t xs) → Open es first n xs → UnionMade es first ts m
 
 -- r says whether the part on a side of the type e, with its parts below n, is `any`
 abbrev pub SaysPartAny : List TypeEntry → ℕ → TypeEntry → Side → Bool → Type 0
-SaysPartAny es n e side r = (t : Ty) → Is es n e t → Decides r (OwnPart side t any)
+SaysPartAny es n e side r = n ≤ length es → (t : Ty) → Is es n e t → Decides r (OwnPart side t any)
 
--- r says whether that of one of n entries from first on is
+-- r says whether the part on a side of one of the types at the indexes from first on and below end is `any`
 abbrev pub SaysAnyPart : List TypeEntry → ℕ → ℕ → Side → Bool → Type 0
-SaysAnyPart es first n side r = (ts : Types) → Run es first n ts → Decides r ((t : Ty) × In t ts × OwnPart side t any)
+SaysAnyPart es first end side r = first ≤ end → end ≤ length es → (ts : Types) → Run es first (end - first) ts → Decides r ((t : Ty) × In t ts × OwnPart side t any)
 
 -- es with an open union of n members becomes fs with the same and all that the part of the type e brings
 abbrev pub AddsPart : List TypeEntry → List TypeEntry → ℕ → ℕ → TypeEntry → Side → Option ℕ → Type 0
@@ -113,16 +115,11 @@ AddsPart es fs first n e side r =
     (t : Ty) (ps xs ys : Types) → Is es first e t → InForm t → OwnParts side (t and no_types) ps → Brings ps ys → (In any ys → ⊥) → Open es first n xs
     → Opened es fs first (xs then ys) r
 
--- the same of all that the parts of n entries from first on bring, in a union opened at used
+-- the same of all that the parts of the entries from first on and below end bring, in a union opened at used
 abbrev pub AddsParts : List TypeEntry → List TypeEntry → ℕ → ℕ → ℕ → Side → Option ℕ → Type 0
-AddsParts es fs used first n side r =
-    (ts ps xs : Types) → Run es first n ts → AllInForm ts → OwnParts side ts ps → Brings ps xs → (In any xs → ⊥)
+AddsParts es fs used first end side r =
+    (ts ps xs : Types) → Run es first (end - first) ts → AllInForm ts → OwnParts side ts ps → Brings ps xs → (In any xs → ⊥)
     → Opened es fs used xs r
-
--- the code unit u is written at an index, or the table ends before it
-abbrev pub PutsUnit : List TypeEntry → List TypeEntry → ℕ → ℕ → Bool → Type 0
-PutsUnit es fs at u true = (at < length es) × (fs ≡ slice_set es at (CodeUnit u))
-PutsUnit es fs at u false = (length es ≤ at) × (fs ≡ es)
 
 -- the index i, moved up
 abbrev pub up : ℕ → ℕ → ℕ

@@ -7,7 +7,7 @@ use Rattle.types.specs.declared.entries.TypeEntry.{TypeEntry}
 use Rattle.types.specs.Values.{Decimal, Text}
 use Rattle.types.specs.Types.{number_literal, string_literal}
 use Rattle.types.specs.Table.{Is}
-use Rattle.building.specs.declared.unions.Made.{Made}
+use Rattle.types.specs.declared.entries.Root.{Root}
 use Rattle.building.specs.Made.{TypeOrNone}
 
 -- the text is a number, and its value is the decimal
@@ -33,7 +33,7 @@ GivesNumber text (Some e) = NumberGiven text e
 GivesNumber text None = (d : Decimal) → Numeral text d → ⊥
 
 -- the type of the string that the text writes
-abbrev pub MakesString : List TypeEntry → List TypeEntry → ℕ → List ℕ → Option Made → Type 0
+abbrev pub MakesString : List TypeEntry → List TypeEntry → ℕ → List ℕ → Option Root → Type 0
 MakesString es fs used text r = (s : Text) → SpelledString text s → TypeOrNone es fs used (length s.units) (string_literal s) r
 
 -- a text writes one number and one string at most; a text that stands for a decimal writes a number, and one that decodes

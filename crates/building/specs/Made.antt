@@ -1,13 +1,12 @@
 -- What the functions on the type table answer. Assumes nothing.
-use Rattle.std.specs.Prelude.{◌≡◌, ℕ, ◌+◌, ◌<◌, ◌≤◌, min, Bool, List, [], ◌∷◌, length, Some, None, Decides, Option}
+use Rattle.std.specs.Prelude.{◌≡◌, ℕ, ◌+◌, ◌<◌, ◌≤◌, min, Bool, List, [], ◌∷◌, length, Some, None, Decides, Option, Ok, Err, Result}
 use Rattle.types.specs.declared.entries.TypeEntry.{TypeEntry}
 use Rattle.types.specs.declared.entries.TypeEntry.TheVariants.{CodeUnit}
 use Rattle.types.specs.Types.{Ty, Types, function, pair, list, no_types, ◌and◌, count}
 use Rattle.types.specs.Table.{entry_at, Is}
-use Rattle.building.specs.declared.unions.Made.{Made}
+use Rattle.types.specs.declared.entries.Root.{Root}
 use Rattle.building.specs.declared.parts.Side.{Side}
-use Rattle.building.specs.declared.parts.Parted.{Parted}
-use Rattle.building.specs.declared.parts.Parted.TheVariants.{Lacking, NoRoom, Part}
+use Rattle.building.specs.declared.parts.NoRoom.{NoRoom}
 use Rattle.building.specs.HeadsAndTails.{OwnPart, PartOf}
 use Rattle.building.specs.Unions.{UnionOf}
 use Rattle.building.specs.Forms.{InForm}
@@ -35,7 +34,7 @@ abbrev pub Filled : List TypeEntry → ℕ → ℕ → Type 0
 Filled es from to = (j : ℕ) → from ≤ j → j < to → StandsFor es j
 
 -- m is the union of the types ts, with its parts below m.used; those from used on are new
-pub record UnionMade (es : List TypeEntry) (used : ℕ) (ts : Types) (m : Made) : Type 0 where
+pub record UnionMade (es : List TypeEntry) (used : ℕ) (ts : Types) (m : Root) : Type 0 where
   pub made : Ty
   pub is_union : UnionOf ts made
   pub in_form : InForm made
@@ -46,12 +45,12 @@ pub record UnionMade (es : List TypeEntry) (used : ℕ) (ts : Types) (m : Made) 
   pub filled : Filled es used m.used  -- and each stands for something
 
 -- the answer r: the union of ts in fs, or that there is no room for it in es
-abbrev pub UnionOrNone : List TypeEntry → List TypeEntry → ℕ → Types → Option Made → Type 0
+abbrev pub UnionOrNone : List TypeEntry → List TypeEntry → ℕ → Types → Option Root → Type 0
 UnionOrNone es fs used ts (Some m) = UnionMade fs used ts m
 UnionOrNone es fs used ts None = (made : Ty) → UnionOf ts made → length es < used + weight made
 
 -- the union of the types a and b, whose parts stand below used
-abbrev pub MakesUnion : List TypeEntry → List TypeEntry → ℕ → TypeEntry → TypeEntry → Option Made → Type 0
+abbrev pub MakesUnion : List TypeEntry → List TypeEntry → ℕ → TypeEntry → TypeEntry → Option Root → Type 0
 MakesUnion es fs used a b r =
     (s t : Ty) → Is es used a s → Is es used b t → InForm s → InForm t → UnionOrNone es fs used (s and t and no_types) r
 
@@ -71,7 +70,7 @@ abbrev pub GivesPart : List TypeEntry → ℕ → TypeEntry → Side → Option 
 GivesPart es n e side r = n ≤ length es → (t : Ty) → Is es n e t → PartOrNone es n side t r
 
 -- m is the type t, with its parts below m.used; those from used on are new
-pub record TypeMade (es : List TypeEntry) (used : ℕ) (t : Ty) (m : Made) : Type 0 where
+pub record TypeMade (es : List TypeEntry) (used : ℕ) (t : Ty) (m : Root) : Type 0 where
   pub holds : Is es m.used m.entry t
   pub more : used ≤ m.used
   pub within : m.used ≤ length es
@@ -79,16 +78,16 @@ pub record TypeMade (es : List TypeEntry) (used : ℕ) (t : Ty) (m : Made) : Typ
   pub filled : Filled es used m.used
 
 -- the answer r: the type t in fs, or that n entries do not fit in from used on
-abbrev pub TypeOrNone : List TypeEntry → List TypeEntry → ℕ → ℕ → Ty → Option Made → Type 0
+abbrev pub TypeOrNone : List TypeEntry → List TypeEntry → ℕ → ℕ → Ty → Option Root → Type 0
 TypeOrNone es fs used n t (Some m) = TypeMade fs used t m
 TypeOrNone es fs used n t None = length es < used + n
 
 -- the pair type of the types a and b, whose parts stand below used
-abbrev pub MakesPair : List TypeEntry → List TypeEntry → ℕ → TypeEntry → TypeEntry → Option Made → Type 0
+abbrev pub MakesPair : List TypeEntry → List TypeEntry → ℕ → TypeEntry → TypeEntry → Option Root → Type 0
 MakesPair es fs used a b r = (s t : Ty) → Is es used a s → Is es used b t → TypeOrNone es fs used 2 (pair s t) r
 
 -- the list type of the type a, whose parts stand below used
-abbrev pub MakesList : List TypeEntry → List TypeEntry → ℕ → TypeEntry → Option Made → Type 0
+abbrev pub MakesList : List TypeEntry → List TypeEntry → ℕ → TypeEntry → Option Root → Type 0
 MakesList es fs used a r = (t : Ty) → Is es used a t → TypeOrNone es fs used 1 (list t) r
 
 -- the entries hs, with their parts below n, are the types of a list
@@ -97,27 +96,27 @@ pub data Hold (es : List TypeEntry) (n : ℕ) : List TypeEntry → Types → Typ
   hold_more : {e : TypeEntry} {hs : List TypeEntry} {t : Ty} {ts : Types} → Is es n e t → Hold es n hs ts → Hold es n (e ∷ hs) (t and ts)
 
 -- the function type of the parameters ps and the result e, whose parts stand below used
-abbrev pub MakesFunction : List TypeEntry → List TypeEntry → ℕ → List TypeEntry → TypeEntry → Option Made → Type 0
+abbrev pub MakesFunction : List TypeEntry → List TypeEntry → ℕ → List TypeEntry → TypeEntry → Option Root → Type 0
 MakesFunction es fs used ps e r = (ts : Types) (t : Ty) → Hold es used ps ts → Is es used e t → TypeOrNone es fs used (count ts + 1) (function ts t) r
 
 -- c is the type t, copied with all entries that m has in use
-pub record CopyMade (es : List TypeEntry) (used : ℕ) (t : Ty) (m c : Made) : Type 0 where
+pub record CopyMade (es : List TypeEntry) (used : ℕ) (t : Ty) (m c : Root) : Type 0 where
   pub holds : Is es c.used c.entry t
   pub used_is : c.used ≡ used + m.used
   pub within : c.used ≤ length es
   pub filled : Filled es used c.used
 
 -- the answer r: the type t of m in fs, or that its entries do not fit in from used on
-abbrev pub CopyOrNone : List TypeEntry → List TypeEntry → ℕ → Ty → Made → Option Made → Type 0
+abbrev pub CopyOrNone : List TypeEntry → List TypeEntry → ℕ → Ty → Root → Option Root → Type 0
 CopyOrNone es fs used t m (Some c) = CopyMade fs used t m c
 CopyOrNone es fs used t m None = length es < used + m.used
 
 -- the type m, whose parts stand in other entries, each of which stands for something
-abbrev pub MakesCopy : List TypeEntry → List TypeEntry → ℕ → List TypeEntry → Made → Option Made → Type 0
+abbrev pub MakesCopy : List TypeEntry → List TypeEntry → ℕ → List TypeEntry → Root → Option Root → Type 0
 MakesCopy es fs used others m r = m.used ≤ length others → Filled others 0 m.used → (t : Ty) → Is others m.used m.entry t → CopyOrNone es fs used t m r
 
 -- m is the part on a side of the type t, with its parts below m.used; those from used on are new
-pub record PartMade (es : List TypeEntry) (used : ℕ) (side : Side) (t : Ty) (m : Made) : Type 0 where
+pub record PartMade (es : List TypeEntry) (used : ℕ) (side : Side) (t : Ty) (m : Root) : Type 0 where
   pub made : Ty
   pub is_part : PartOf side t made
   pub in_form : InForm made
@@ -128,11 +127,11 @@ pub record PartMade (es : List TypeEntry) (used : ℕ) (side : Side) (t : Ty) (m
   pub filled : Filled es used m.used
 
 -- the answer r: the part on a side of the type t in fs, that t has none, or that there is no room for it in es
-abbrev pub PartAnswer : List TypeEntry → List TypeEntry → ℕ → Side → Ty → Parted → Type 0
-PartAnswer es fs used side t Lacking = (p : Ty) → PartOf side t p → ⊥
-PartAnswer es fs used side t NoRoom = (p : Ty) × PartOf side t p × (length es < used + weight p)
-PartAnswer es fs used side t (Part m) = PartMade fs used side t m
+abbrev pub PartAnswer : List TypeEntry → List TypeEntry → ℕ → Side → Ty → Result (Option Root) NoRoom → Type 0
+PartAnswer es fs used side t (Ok (Some m)) = PartMade fs used side t m
+PartAnswer es fs used side t (Ok None) = (p : Ty) → PartOf side t p → ⊥
+PartAnswer es fs used side t (Err e) = (p : Ty) × PartOf side t p × (length es < used + weight p)
 
 -- the part on a side of the type e, whose parts stand below used
-abbrev pub MakesPart : List TypeEntry → List TypeEntry → ℕ → TypeEntry → Side → Parted → Type 0
+abbrev pub MakesPart : List TypeEntry → List TypeEntry → ℕ → TypeEntry → Side → Result (Option Root) NoRoom → Type 0
 MakesPart es fs used e side r = used ≤ length es → (t : Ty) → Is es used e t → InForm t → PartAnswer es fs used side t r

@@ -3,9 +3,7 @@ ghost use Rattle.std.specs.Prelude.{◌≡◌};
 ghost use Rattle.building.specs.Entries.{shift};
 ghost use Rattle.building.specs.Made.{Kept, MakesCopy};
 
-use crate::unions::Made;
-use types::compare::run_below;
-use types::entries::TypeEntry;
+use types::entries::{Root, TypeEntry};
 
 // The same entry with the indexes of its parts moved up.
 fn shifted(e: TypeEntry, by: usize) -> TypeEntry
@@ -42,23 +40,23 @@ pub fn copied(
     types: &mut [TypeEntry],
     used: usize,
     others: &[TypeEntry],
-    made: Made,
-) -> Option<Made>
+    made: Root,
+) -> Option<Root>
     ensures made { MakesCopy types.old types.new used others.now made result }
     ensures kept { Kept types.old types.new used }
 {
-    if made.used > others.len() {
+    let entries = others.get(..made.used)?;
+    let end = used.checked_add(made.used)?;
+    if end > types.len() {
         return None;
     }
-    if !run_below(used, made.used, types.len()) {
-        return None;
+    let places = &mut types[used..end];
+    places.copy_from_slice(entries);
+    for place in places.iter_mut() {
+        *place = shifted(*place, used);
     }
-    for k in 0..made.used {
-        let entry = shifted(others[k], used);
-        types[used + k] = entry;
-    }
-    Some(Made {
+    Some(Root {
         entry: shifted(made.entry, used),
-        used: used + made.used,
+        used: end,
     })
 }

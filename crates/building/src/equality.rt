@@ -1,123 +1,62 @@
 // Whether two types are the same.
-ghost use Rattle.std.specs.Prelude.{◌≡◌};
-ghost use Rattle.building.specs.Entries.{plain_number};
+ghost use Rattle.building.specs.Entries.{SaysSameParts, SaysSameRuns};
 ghost use Rattle.building.specs.Made.{SaysSameType};
 
-use types::compare::{run_below, same_number, same_units};
-use types::entries::TypeEntry;
+use std::ops::Range;
+use types::compare::same_units;
+use types::entries::{Root, TypeEntry};
 
-// A number of its own for each entry that is a type without parts, and 0 for the others.
-fn plain_number(e: TypeEntry) -> u8
-    ensures { result ≡ plain_number e }
+// Whether two types are alike part by part. Where one of them is no type of the table, the answer is free.
+#[cycle(equality)]
+pub fn same(types: &[TypeEntry], a: Root, b: Root) -> bool
+    ensures { SaysSameType types.now a.used a.entry b.used b.entry result }
 {
-    match e {
-        TypeEntry::Any => 1,
-        TypeEntry::Number => 2,
-        TypeEntry::String => 3,
-        TypeEntry::Boolean => 4,
-        TypeEntry::True => 5,
-        TypeEntry::False => 6,
-        TypeEntry::Undefined => 7,
-        TypeEntry::Null => 8,
-        _ => 0,
-    }
+    same_parts(types, a, b).unwrap_or(false)
 }
 
-// Whether two types are alike part by part: a, whose parts stand below n, and b, whose parts stand below m.
-// Where one of them is no type of the table, the answer is free.
-pub fn same(types: &[TypeEntry], n: usize, a: TypeEntry, m: usize, b: TypeEntry) -> bool
-    ensures { SaysSameType types.now n a m b result }
+// The same. None where a part does not stand below its type.
+#[cycle(equality)]
+fn same_parts(types: &[TypeEntry], a: Root, b: Root) -> Option<bool>
+    ensures { SaysSameParts types.now a.used a.entry b.used b.entry result }
 {
-    if n > types.len() || m > types.len() {
+    Some(match (a.entry, b.entry) {
+        (
+            TypeEntry::StringLiteral { first, count },
+            TypeEntry::StringLiteral { first: f, count: c },
+        ) => count == c && same_units(types, first, f, count),
+        (TypeEntry::Function { first, count }, TypeEntry::Function { first: f, count: c }) => {
+            same_runs(types, a.run(first, count)?, b.run(f, c)?)
+                && same(types, a.part(types, first + count)?, b.part(types, f + c)?)
+        }
+        (TypeEntry::Pair { head, tail }, TypeEntry::Pair { head: h, tail: t }) => {
+            same(types, a.part(types, head)?, b.part(types, h)?)
+                && same(types, a.part(types, tail)?, b.part(types, t)?)
+        }
+        (TypeEntry::List { element: x }, TypeEntry::List { element: y }) => {
+            same(types, a.part(types, x)?, b.part(types, y)?)
+        }
+        (TypeEntry::Union { first, count }, TypeEntry::Union { first: f, count: c }) => {
+            same_runs(types, a.run(first, count)?, b.run(f, c)?)
+        }
+        _ => a.entry == b.entry,
+    })
+}
+
+// Whether two runs of entries hold the same types.
+#[cycle(equality)]
+fn same_runs(types: &[TypeEntry], run: Range<usize>, other: Range<usize>) -> bool
+    ensures { SaysSameRuns types.now run.start run.end other.start other.end result }
+{
+    if run.len() != other.len() {
         return false;
     }
-    match a {
-        TypeEntry::NumberLiteral { digits, exponent } => match b {
-            TypeEntry::NumberLiteral {
-                digits: d,
-                exponent: e,
-            } => same_number(digits, exponent, d, e),
-            _ => false,
-        },
-        TypeEntry::StringLiteral { first, count } => match b {
-            TypeEntry::StringLiteral { first: f, count: c } => {
-                if count != c {
-                    return false;
-                }
-                same_units(types, first, f, count)
-            }
-            _ => false,
-        },
-        TypeEntry::Function { first, count } => match b {
-            TypeEntry::Function { first: f, count: c } => {
-                if count != c {
-                    return false;
-                }
-                if n == 0 || m == 0 {
-                    return false;
-                }
-                if !run_below(first, count, n - 1) {
-                    return false;
-                }
-                if !run_below(f, count, m - 1) {
-                    return false;
-                }
-                for k in 0..count {
-                    let x = first + k;
-                    let y = f + k;
-                    if !same(types, x, types[x], y, types[y]) {
-                        return false;
-                    }
-                }
-                let x = first + count;
-                let y = f + count;
-                same(types, x, types[x], y, types[y])
-            }
-            _ => false,
-        },
-        TypeEntry::Pair { head, tail } => match b {
-            TypeEntry::Pair { head: h, tail: t } => {
-                if head >= n || tail >= n || h >= m || t >= m {
-                    return false;
-                }
-                if !same(types, head, types[head], h, types[h]) {
-                    return false;
-                }
-                same(types, tail, types[tail], t, types[t])
-            }
-            _ => false,
-        },
-        TypeEntry::List { element } => match b {
-            TypeEntry::List { element: x } => {
-                if element >= n || x >= m {
-                    return false;
-                }
-                same(types, element, types[element], x, types[x])
-            }
-            _ => false,
-        },
-        TypeEntry::Union { first, count } => match b {
-            TypeEntry::Union { first: f, count: c } => {
-                if count != c {
-                    return false;
-                }
-                if !run_below(first, count, n) {
-                    return false;
-                }
-                if !run_below(f, count, m) {
-                    return false;
-                }
-                for k in 0..count {
-                    let x = first + k;
-                    let y = f + k;
-                    if !same(types, x, types[x], y, types[y]) {
-                        return false;
-                    }
-                }
-                true
-            }
-            _ => false,
-        },
-        _ => plain_number(a) == plain_number(b),
+    // By an index: with `run.zip(other)` the proof does not learn what the two ranges yield.
+    for k in 0..run.len() {
+        let x = Root::at(types, run.start + k);
+        let y = Root::at(types, other.start + k);
+        if !same(types, x, y) {
+            return false;
+        }
     }
+    true
 }

@@ -15,43 +15,31 @@ pub mod unions;
 pub mod weights;
 
 // Some types have at most one union.
-pub fn unions_are_one() -> u8
+pub fn unions_are_one()
     ensures { OneUnion }
-{
-    0
-}
+{}
 
 // Types in form have a union, and it is in form.
-pub fn unions_exist() -> u8
+pub fn unions_exist()
     ensures { UnionExists }
-{
-    0
-}
+{}
 
 // A union has the values of its members together.
-pub fn unions_join_values() -> u8
+pub fn unions_join_values()
     ensures { UnionOfValues }
-{
-    0
-}
+{}
 
 // A type has at most one head part and one tail part.
-pub fn parts_are_one() -> u8
+pub fn parts_are_one()
     ensures { OnePart }
-{
-    0
-}
+{}
 
 // Whether a type in form has a part on a side can be told, and the part is in form.
-pub fn parts_are_told() -> u8
+pub fn parts_are_told()
     ensures { PartTold }
-{
-    0
-}
+{}
 
 // A text writes at most one number and one string; one that can be read as either writes it.
-pub fn literals_are_one() -> u8
+pub fn literals_are_one()
     ensures { LiteralLaws }
-{
-    0
-}
+{}

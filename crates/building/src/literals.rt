@@ -1,13 +1,11 @@
 // The types of number literals and string literals.
 ghost use Rattle.std.specs.Prelude.{◌≡◌, ◌≤◌, pos, ◌+ℤ◌};
-ghost use Rattle.building.specs.Entries.{PutsUnit};
 ghost use Rattle.building.specs.Literals.{GivesNumber, MakesString};
 ghost use Rattle.building.specs.Made.{Kept};
 
-use crate::unions::Made;
 use lexer::decimal::decimal;
 use lexer::read::Decoder;
-use types::entries::TypeEntry;
+use types::entries::{Root, TypeEntry};
 
 // The exponent of a decimal, from its power.
 fn exponent_of(power: u16) -> i16
@@ -21,29 +19,16 @@ fn exponent_of(power: u16) -> i16
 pub fn number_of(text: &[u8]) -> Option<TypeEntry>
     ensures { GivesNumber text.now result }
 {
-    let Some(d) = decimal(text) else {
-        return None;
-    };
+    let d = decimal(text)?;
     Some(TypeEntry::NumberLiteral {
         digits: d.digits,
         exponent: exponent_of(d.power),
     })
 }
 
-// Writes a code unit into the table, if the table goes that far.
-fn put_unit(types: &mut [TypeEntry], at: usize, unit: u16) -> bool
-    ensures { PutsUnit types.old types.new at unit result }
-{
-    if at >= types.len() {
-        return false;
-    }
-    types[at] = TypeEntry::CodeUnit(unit);
-    true
-}
-
 // The type of the string that a text writes, its code units from `used` on. None where they do not fit in.
 // Where the text is no string, the answer is free.
-pub fn string_of(types: &mut [TypeEntry], used: usize, text: &[u8]) -> Option<Made>
+pub fn string_of(types: &mut [TypeEntry], used: usize, text: &[u8]) -> Option<Root>
     ensures made { MakesString types.old types.new used text.now result }
     ensures kept { Kept types.old types.new used }
 {
@@ -53,12 +38,14 @@ pub fn string_of(types: &mut [TypeEntry], used: usize, text: &[u8]) -> Option<Ma
     let mut decoder = Decoder { text, at: 1 };
     let mut count = 0;
     while let Some(unit) = decoder.next() {
-        if !put_unit(types, used + count, unit) {
+        let at = used + count;
+        if at >= types.len() {
             return None;
         }
+        types[at] = TypeEntry::CodeUnit(unit);
         count += 1;
     }
-    Some(Made {
+    Some(Root {
         entry: TypeEntry::StringLiteral { first: used, count },
         used: used + count,
     })

@@ -1,12 +1,11 @@
 // Open unions: runs of entries from `first` on, whose parts stand below `first`.
-ghost use Rattle.std.specs.Prelude.{◌≡◌, ◌+◌, ◌<◌, ◌≤◌, length, Decides};
+ghost use Rattle.std.specs.Prelude.{◌≡◌, ◌+◌, ◌<◌, ◌≤◌, length};
 ghost use Rattle.building.specs.Entries.{Adds, AddsAll, Closes, Place, PutIn, SaysIn, Within, entry_rank};
 ghost use Rattle.building.specs.Made.{Kept};
 
 use crate::equality::same;
-use crate::unions::Made;
 use types::compare::run_below;
-use types::entries::TypeEntry;
+use types::entries::{Root, TypeEntry};
 use types::kinds::{kind_of, rank_of};
 
 // The rank of the kind of a type; `any` and a union have none.
@@ -24,9 +23,16 @@ fn has_member(types: &[TypeEntry], first: usize, count: usize, e: TypeEntry) -> 
     requires { first + count ≤ length types.now }
     ensures { SaysIn types.now first count e result }
 {
-    for k in 0..count {
-        let i = first + k;
-        if same(types, first, types[i], first, e) {
+    let new = Root {
+        entry: e,
+        used: first,
+    };
+    for i in first..first + count {
+        let member = Root {
+            entry: types[i],
+            used: first,
+        };
+        if same(types, member, new) {
             return true;
         }
     }
@@ -96,36 +102,24 @@ pub fn add_type(types: &mut [TypeEntry], first: usize, count: usize, e: TypeEntr
     let mut total = count;
     for k in 0..size {
         let member = types[from + k];
-        let Some(n) = add_member(types, first, total, member) else {
-            return None;
-        };
-        total = n;
+        total = add_member(types, first, total, member)?;
     }
     Some(total)
 }
 
 // Closes an open union: its one member, or a union of several.
-pub fn close(types: &[TypeEntry], first: usize, count: usize) -> Made
+pub fn close(types: &[TypeEntry], first: usize, count: usize) -> Root
     requires { first + count ≤ length types.now }
     ensures { Closes types.now first count result }
 {
     if count == 1 {
-        return Made {
+        return Root {
             entry: types[first],
             used: first,
         };
     }
-    Made {
+    Root {
         entry: TypeEntry::Union { first, count },
         used: first + count,
-    }
-}
-
-pub fn is_any(e: TypeEntry) -> bool
-    ensures { Decides result (e ≡ TypeEntry.Any) }
-{
-    match e {
-        TypeEntry::Any => true,
-        _ => false,
     }
 }

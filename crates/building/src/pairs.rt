@@ -1,12 +1,11 @@
 // Pair types and list types made in the type table.
 ghost use Rattle.building.specs.Made.{Kept, MakesList, MakesPair};
 
-use crate::unions::Made;
 use types::compare::run_below;
-use types::entries::TypeEntry;
+use types::entries::{Root, TypeEntry};
 
 // `Pair<a, b>`, where the parts of a and b stand below `used`. None where two entries do not fit in from `used` on.
-pub fn pair_of(types: &mut [TypeEntry], used: usize, a: TypeEntry, b: TypeEntry) -> Option<Made>
+pub fn pair_of(types: &mut [TypeEntry], used: usize, a: TypeEntry, b: TypeEntry) -> Option<Root>
     ensures made { MakesPair types.old types.new used a b result }
     ensures kept { Kept types.old types.new used }
 {
@@ -17,14 +16,14 @@ pub fn pair_of(types: &mut [TypeEntry], used: usize, a: TypeEntry, b: TypeEntry)
     let tail = used + 1;
     types[head] = a;
     types[tail] = b;
-    Some(Made {
+    Some(Root {
         entry: TypeEntry::Pair { head, tail },
         used: used + 2,
     })
 }
 
 // `List<a>`, where the parts of a stand below `used`. None where an entry does not fit in from `used` on.
-pub fn list_of(types: &mut [TypeEntry], used: usize, a: TypeEntry) -> Option<Made>
+pub fn list_of(types: &mut [TypeEntry], used: usize, a: TypeEntry) -> Option<Root>
     ensures made { MakesList types.old types.new used a result }
     ensures kept { Kept types.old types.new used }
 {
@@ -32,7 +31,7 @@ pub fn list_of(types: &mut [TypeEntry], used: usize, a: TypeEntry) -> Option<Mad
         return None;
     }
     types[used] = a;
-    Some(Made {
+    Some(Root {
         entry: TypeEntry::List { element: used },
         used: used + 1,
     })

@@ -3,78 +3,51 @@ ghost use Rattle.std.specs.Prelude.{◌+◌, ◌≤◌, length};
 ghost use Rattle.building.specs.Entries.{AddsPart, AddsParts, SaysAnyPart, SaysPartAny, Within};
 ghost use Rattle.building.specs.Made.{GivesPart, Kept, MakesPart};
 
-use crate::members::{add_type, close, is_any};
-use crate::unions::Made;
-use types::compare::run_below;
-use types::entries::TypeEntry;
+use crate::members::{add_type, close};
+use std::ops::Range;
+use types::entries::{Root, TypeEntry};
 
-#[derive(Clone, Copy)]
+#[derive(Clone, Copy, PartialEq, Eq, Debug)]
 pub enum Side {
     Head,
     Tail,
 }
 
-// What asking for a part of a type answers.
-#[derive(Clone, Copy)]
-pub enum Parted {
-    // The type has no part on that side.
-    Lacking,
-    // There is no room for the part.
-    NoRoom,
-    Part(Made),
-}
+// There is no room for what is made.
+#[derive(Clone, Copy, PartialEq, Eq, Debug)]
+pub struct NoRoom;
 
-// The part on a side of a type that is no union and whose parts stand below n; a union has none of its own.
-// Where e is no type of the table, the answer is free.
-pub fn own_part(types: &[TypeEntry], n: usize, e: TypeEntry, side: Side) -> Option<TypeEntry>
-    ensures { GivesPart types.now n e side result }
+// The part on a side of a type that is no union; a union has none of its own.
+// Where it is no type of the table, the answer is free.
+pub fn own_part(types: &[TypeEntry], a: Root, side: Side) -> Option<TypeEntry>
+    ensures { GivesPart types.now a.used a.entry side result }
 {
-    if n > types.len() {
-        return None;
-    }
-    match e {
-        TypeEntry::Any => Some(e),
-        TypeEntry::Pair { head, tail } => {
-            if head >= n || tail >= n {
-                return None;
-            }
-            match side {
-                Side::Head => Some(types[head]),
-                Side::Tail => Some(types[tail]),
-            }
-        }
-        TypeEntry::List { element } => {
-            if element >= n {
-                return None;
-            }
-            match side {
-                Side::Head => Some(types[element]),
-                Side::Tail => Some(e),
-            }
-        }
+    match (a.entry, side) {
+        (TypeEntry::Any, _) => Some(a.entry),
+        (TypeEntry::List { .. }, Side::Tail) => Some(a.entry),
+        (TypeEntry::List { element }, Side::Head) => Some(a.part(types, element)?.entry),
+        (TypeEntry::Pair { head, .. }, Side::Head) => Some(a.part(types, head)?.entry),
+        (TypeEntry::Pair { tail, .. }, Side::Tail) => Some(a.part(types, tail)?.entry),
         _ => None,
     }
 }
 
-// Whether the part on a side of the type e, whose parts stand below n, is `any`.
-fn part_is_any(types: &[TypeEntry], n: usize, e: TypeEntry, side: Side) -> bool
-    requires { n ≤ length types.now }
-    ensures { SaysPartAny types.now n e side result }
+// Whether the part on a side of a type is `any`.
+fn part_is_any(types: &[TypeEntry], a: Root, side: Side) -> bool
+    ensures { SaysPartAny types.now a.used a.entry side result }
 {
-    match own_part(types, n, e, side) {
-        Some(part) => is_any(part),
+    match own_part(types, a, side) {
+        Some(part) => part == TypeEntry::Any,
         None => false,
     }
 }
 
-// Whether the part of some member of a union is `any`.
-fn has_any_part(types: &[TypeEntry], first: usize, count: usize, side: Side) -> bool
-    requires { first + count ≤ length types.now }
-    ensures { SaysAnyPart types.now first count side result }
+// Whether the part of some type in a run of entries is `any`.
+fn has_any_part(types: &[TypeEntry], run: Range<usize>, side: Side) -> bool
+    ensures { SaysAnyPart types.now run.start run.end side result }
 {
-    for k in 0..count {
-        let i = first + k;
-        if part_is_any(types, i, types[i], side) {
+    for k in run {
+        if part_is_any(types, Root::at(types, k), side) {
             return true;
         }
     }
@@ -94,65 +67,59 @@ fn add_part(
     ensures kept { Kept types.old types.new first }
     ensures within { Within types.new first result }
 {
-    let Some(part) = own_part(types, first, e, side) else {
-        return Some(count);
+    let a = Root {
+        entry: e,
+        used: first,
     };
-    add_type(types, first, count, part)
+    match own_part(types, a, side) {
+        Some(part) => add_type(types, first, count, part),
+        None => Some(count),
+    }
 }
 
-// Opens a union at `used` and adds the parts of the members of another one.
-fn add_parts(
-    types: &mut [TypeEntry],
-    used: usize,
-    from: usize,
-    size: usize,
-    side: Side,
-) -> Option<usize>
-    requires { (from + size ≤ used) × (used ≤ length types.old) }
-    ensures adds { AddsParts types.old types.new used from size side result }
+// Opens a union at `used` and adds the parts of the types in a run of entries.
+fn add_parts(types: &mut [TypeEntry], used: usize, run: Range<usize>, side: Side) -> Option<usize>
+    requires { (run.start ≤ run.end) × (run.end ≤ used) × (used ≤ length types.old) }
+    ensures adds { AddsParts types.old types.new used run.start run.end side result }
     ensures kept { Kept types.old types.new used }
     ensures within { Within types.new used result }
 {
     let mut total = 0;
-    for k in 0..size {
-        let member = types[from + k];
-        let Some(n) = add_part(types, used, total, member, side) else {
-            return None;
-        };
-        total = n;
+    for k in run {
+        let member = types[k];
+        total = add_part(types, used, total, member, side)?;
     }
     Some(total)
 }
 
-// The part on a side of the type e, whose parts stand below `used`: of a union, the union of the parts of its members.
-// Where e is no type of the table, or not in form, the answer is free.
-pub fn part_of(types: &mut [TypeEntry], used: usize, e: TypeEntry, side: Side) -> Parted
-    ensures made { MakesPart types.old types.new used e side result }
-    ensures kept { Kept types.old types.new used }
+// The part on a side of a type: of a union, the union of the parts of its members. None where it has no such part.
+// Where it is no type of the table, or not in form, the answer is free.
+pub fn part_of(types: &mut [TypeEntry], a: Root, side: Side) -> Result<Option<Root>, NoRoom>
+    ensures made { MakesPart types.old types.new a.used a.entry side result }
+    ensures kept { Kept types.old types.new a.used }
 {
+    let used = a.used;
     if used > types.len() {
-        return Parted::NoRoom;
+        return Err(NoRoom);
     }
-    let TypeEntry::Union { first, count: size } = e else {
-        return match own_part(types, used, e, side) {
-            Some(entry) => Parted::Part(Made { entry, used }),
-            None => Parted::Lacking,
+    let TypeEntry::Union { first, count: size } = a.entry else {
+        return match own_part(types, a, side) {
+            Some(entry) => Ok(Some(Root { entry, used })),
+            None => Ok(None),
         };
     };
-    if !run_below(first, size, used) {
-        return Parted::Lacking;
-    }
-    if has_any_part(types, first, size, side) {
-        return Parted::Part(Made {
+    let Some(Range { start, end }) = a.run(first, size) else {
+        return Ok(None);
+    };
+    if has_any_part(types, start..end, side) {
+        return Ok(Some(Root {
             entry: TypeEntry::Any,
             used,
-        });
+        }));
     }
-    let Some(count) = add_parts(types, used, first, size, side) else {
-        return Parted::NoRoom;
-    };
-    if count == 0 {
-        return Parted::Lacking;
+    match add_parts(types, used, start..end, side) {
+        Some(0) => Ok(None),
+        Some(count) => Ok(Some(close(types, used, count))),
+        None => Err(NoRoom),
     }
-    Parted::Part(close(types, used, count))
 }

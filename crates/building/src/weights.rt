@@ -1,76 +1,61 @@
 // The weight of a type.
 ghost use Rattle.std.specs.Prelude.{◌≡◌, ◌+◌, min};
+ghost use Rattle.building.specs.Entries.{SaysPartsWeigh, SaysRunWeighs};
 ghost use Rattle.building.specs.Made.{SaysWeight};
 
-use types::compare::run_below;
-use types::entries::TypeEntry;
+use std::ops::Range;
+use types::entries::{Root, TypeEntry};
 
 // The sum, or the limit where it is more.
 fn sum_within(a: usize, b: usize, limit: usize) -> usize
     ensures { result ≡ min (a + b) limit }
 {
-    if a >= limit || b >= limit - a {
-        return limit;
-    }
-    a + b
+    a.saturating_add(b).min(limit)
 }
 
-// The weight of the type e, whose parts stand below n, or the limit where it is more.
-// Where e is no type of the table, the answer is free.
-pub fn weight_within(types: &[TypeEntry], n: usize, e: TypeEntry, limit: usize) -> usize
-    ensures { SaysWeight types.now n e limit result }
+// The weight of a type, or the limit where it is more. Where it is no type of the table, the answer is free.
+#[cycle(weights)]
+pub fn weight_within(types: &[TypeEntry], a: Root, limit: usize) -> usize
+    ensures { SaysWeight types.now a.used a.entry limit result }
 {
-    if n > types.len() {
-        return 0;
+    match parts_weigh(types, a, limit) {
+        Some(parts) => sum_within(1, parts, limit),
+        None => 0,
     }
-    match e {
-        TypeEntry::StringLiteral { count, .. } => sum_within(1, count, limit),
+}
+
+// The weight of the parts of a type, or the limit. None where a part does not stand below the type.
+#[cycle(weights)]
+fn parts_weigh(types: &[TypeEntry], a: Root, limit: usize) -> Option<usize>
+    ensures { SaysPartsWeigh types.now a.used a.entry limit result }
+{
+    Some(match a.entry {
+        TypeEntry::StringLiteral { count, .. } => count,
         TypeEntry::Function { first, count } => {
-            if n == 0 {
-                return 0;
-            }
-            if !run_below(first, count, n - 1) {
-                return 0;
-            }
-            let mut sum = 0;
-            for k in 0..count {
-                let x = first + k;
-                let w = weight_within(types, x, types[x], limit);
-                sum = sum_within(sum, w, limit);
-            }
-            let x = first + count;
-            let w = weight_within(types, x, types[x], limit);
-            let all = sum_within(sum, w, limit);
-            sum_within(1, all, limit)
+            let parameters = run_weighs(types, a.run(first, count)?, limit);
+            let res = weight_within(types, a.part(types, first + count)?, limit);
+            sum_within(parameters, res, limit)
         }
         TypeEntry::Pair { head, tail } => {
-            if head >= n || tail >= n {
-                return 0;
-            }
-            let h = weight_within(types, head, types[head], limit);
-            let t = weight_within(types, tail, types[tail], limit);
-            let all = sum_within(h, t, limit);
-            sum_within(1, all, limit)
+            let h = weight_within(types, a.part(types, head)?, limit);
+            let t = weight_within(types, a.part(types, tail)?, limit);
+            sum_within(h, t, limit)
         }
-        TypeEntry::List { element } => {
-            if element >= n {
-                return 0;
-            }
-            let w = weight_within(types, element, types[element], limit);
-            sum_within(1, w, limit)
-        }
-        TypeEntry::Union { first, count } => {
-            if !run_below(first, count, n) {
-                return 0;
-            }
-            let mut sum = 0;
-            for k in 0..count {
-                let x = first + k;
-                let w = weight_within(types, x, types[x], limit);
-                sum = sum_within(sum, w, limit);
-            }
-            sum_within(1, sum, limit)
-        }
-        _ => sum_within(1, 0, limit),
+        TypeEntry::List { element } => weight_within(types, a.part(types, element)?, limit),
+        TypeEntry::Union { first, count } => run_weighs(types, a.run(first, count)?, limit),
+        _ => 0,
+    })
+}
+
+// The weights of the types in a run of entries together, or the limit.
+#[cycle(weights)]
+fn run_weighs(types: &[TypeEntry], run: Range<usize>, limit: usize) -> usize
+    ensures { SaysRunWeighs types.now run.start run.end limit result }
+{
+    let mut sum = 0;
+    for k in run {
+        let weight = weight_within(types, Root::at(types, k), limit);
+        sum = sum_within(sum, weight, limit);
     }
+    sum
 }

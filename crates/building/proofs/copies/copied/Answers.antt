@@ -1,22 +1,13 @@
--- `copied`: what it writes is the type by `CopiesMade`. Assumes nothing.
-use Rattle.std.proofs.Common.{◌+◌, ◌^◌, ◌<◌, refl, arith, rules}
-use Rattle.types.specs.Table.{entry_at}
-use Rattle.building.specs.Entries.{shift}
-use Rattle.building.proofs.Written.{kept_more, written_more}
-use Rattle.building.proofs.CopiesMade.{copy_made}
+use Rattle.std.proofs.Common.{◌∙◌, arith}
+use Rattle.std.proofs.lemmas.Grind.{common_steps}
+use Rattle.building.proofs.CopiesMade.{shift_one, copy_written}
 use Rattle.building.proofs.copies.copied.Goals as goal
 
-pub loop-k-preserved : goal.loop-k-preserved
-loop-k-preserved c = (
-  kept_more _ _ _ _ _ c.loop-k.invariant.0,
-  written_more _ _ _ (λ j. shift c.args.used (entry_at c.args.others.now j)) (omega (arith, c.if-not-run_below.ensures.0 refl)) c.shifted-entry.ensures c.loop-k.invariant.1,
-)
+pub loop-place-preserved : goal.loop-place-preserved
+loop-place-preserved c = shift_one c.loop-place.places c.copy_from_slice.new.self c.args.used c.loop-place.place-index (omega arith) c.shifted.ensures c.loop-place.invariant
 
-pub returns : goal.returns
-returns c =
-    let low = c.if-not-run_below.ensures.0 refl in
-    let fit : c.args.used + c.args.made.used < 2 ^ 64 = search rules in
-    record {
-      made = copy_made c.args.types.now _ c.args.others.now _ _ (omega (arith, c.loop-k.auto.types)) fit c.shifted.ensures (λ j lt. c.loop-k.invariant.1 j (omega arith));
-      kept = c.loop-k.invariant.0;
-    }
+pub returns-clause-made : goal.returns-clause-made
+returns-clause-made c all filled t h =
+    let f = c.in_ok-entries.ensures.lookup in
+    let g = c.in_ok-end.ensures in
+    copy_written _ _ c.loop-place.places c.copy_from_slice.new.self _ _ c.args.made g.1 c.if-end-types.false (omega (arith, g.0, g.1)) all (c.copy_from_slice.ensures.after ∙ f.0.2 ∙ grind (arith, common_steps)) c.loop-place.auto.places (λ j lt. c.loop-place.invariant.0 j (omega arith)) c.shifted-2.ensures all filled t h

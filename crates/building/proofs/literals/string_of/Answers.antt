@@ -1,6 +1,5 @@
 -- `string_of`: each way out of it by one lemma of `LiteralsMade`. Assumes nothing.
 use Rattle.std.proofs.Common.{length, refl, ap, ◌∙◌, arith}
-use Rattle.building.proofs.Written.{kept_same}
 use Rattle.building.proofs.LiteralsMade.{none_filled, unit_filled, string_full, string_filled}
 use Rattle.building.proofs.literals.string_of.Goals as goal
 
@@ -10,18 +9,16 @@ loop-unit-init c = (refl, none_filled _ _ _ c.if-used-types.false)
 pub loop-unit-smaller : goal.loop-unit-smaller
 loop-unit-smaller c = let on = c.in-Some.ensures.unit in omega (arith, on.1, on.2, ap length c.loop-unit.invariant.0)
 
-pub returns-then-not-put_unit : goal.returns-then-not-put_unit
-returns-then-not-put_unit c =
-    let full = c.if-not-put_unit.ensures in
-    record {
-      made = string_full _ c.loop-unit.types _ _ c.loop-unit.decoder.text.now c.loop-unit.invariant.0 c.loop-unit.decoder.at _ c.loop-unit.invariant.1 c.in-Some.unit _ c.loop-unit.auto.types full.0 c.in-Some.ensures.unit;
-      kept = kept_same _ c.loop-unit.types _ {gs = c.put_unit.new.types} full.1 c.loop-unit.invariant.1.same;
-    }
+pub returns-then-at-types : goal.returns-then-at-types
+returns-then-at-types c = record {
+  made = string_full _ c.loop-unit.types _ _ c.loop-unit.decoder.text.now c.loop-unit.invariant.0 c.loop-unit.decoder.at _ c.loop-unit.invariant.1 c.in-Some.unit _ c.loop-unit.auto.types c.if-at-types.true c.in-Some.ensures.unit;
+  kept = c.loop-unit.invariant.1.same;
+}
 
 pub loop-unit-preserved : goal.loop-unit-preserved
 loop-unit-preserved c = (
   c.in-Some.ensures.text ∙ c.loop-unit.invariant.0,
-  unit_filled _ _ _ _ c.loop-unit.decoder.text.now c.loop-unit.invariant.0 c.loop-unit.decoder.at _ c.loop-unit.invariant.1 c.in-Some.unit _ c.if-not-put_unit.ensures c.in-Some.ensures.unit,
+  unit_filled _ _ _ _ c.loop-unit.decoder.text.now c.loop-unit.invariant.0 c.loop-unit.decoder.at _ c.loop-unit.invariant.1 c.in-Some.unit _ c.if-at-types.false c.in-Some.ensures.unit,
 )
 
 pub returns : goal.returns

@@ -2,15 +2,15 @@ use Rattle.std.proofs.Common.{refl, arith}
 use Rattle.building.proofs.PartsMade.{part_added, no_part_added}
 use Rattle.building.proofs.parts.add_part.Goals as goal
 
-pub returns-in_default : goal.returns-in_default
-returns-in_default c = record {
-  adds = no_part_added _ _ _ _ _ (λ t h. c.in_default.ensures (omega (arith, c.requires)) t h);
+pub returns-in-None : goal.returns-in-None
+returns-in-None c = record {
+  adds = no_part_added _ _ _ _ _ (λ t h. c.in-None.ensures (omega (arith, c.requires)) t h);
   kept = λ j lt. refl;
   within = c.requires;
 }
 
-pub returns : goal.returns
-returns c = record {
+pub returns-in-Some : goal.returns-in-Some
+returns-in-Some c = record {
   adds = part_added _ _ _ _ _ _ _ c.add_type.result (λ t h. c.in-Some.ensures (omega (arith, c.requires)) t h) c.add_type.ensures.adds;
   kept = c.add_type.ensures.kept;
   within = c.add_type.ensures.within;

@@ -1,48 +1,39 @@
 -- `part_of`: each way out of it by one lemma of `PartsMade`. Assumes nothing.
-use Rattle.std.proofs.Common.{false, refl, arith}
-use Rattle.std.proofs.lemmas.Bool.{both_ways}
-use Rattle.building.proofs.Same.{union_low}
+use Rattle.std.proofs.Common.{refl, arith}
 use Rattle.building.proofs.PartsMade.{own_made, own_lacking, any_made, no_room_made, union_lacking, union_part_made}
 use Rattle.building.proofs.parts.part_of.Goals as goal
 
 pub returns-in-Some : goal.returns-in-Some
 returns-in-Some c = record {
-  made = own_made _ _ _ _ _ (λ t h. c.in-Some.ensures c.if-used-types.false t h);
+  made = own_made _ _ _ _ _ c.in-Some.ensures;
   kept = λ j lt. refl;
 }
 
 pub returns-in-None : goal.returns-in-None
 returns-in-None c = record {
-  made = own_lacking _ _ _ _ c.in_default.not-Union (λ t h. c.in-None.ensures c.if-used-types.false t h);
-  kept = λ j lt. refl;
-}
-
-pub returns-then-not-run_below : goal.returns-then-not-run_below
-returns-then-not-run_below c = record {
-  made = λ le t h form. let low = union_low c.in-Union.is h in absurd (both_ways false refl (c.if-not-run_below.ensures.1 (omega arith)));
+  made = own_lacking _ _ _ _ c.in_default.not-Union c.in-None.ensures;
   kept = λ j lt. refl;
 }
 
 pub returns-then-has_any_part : goal.returns-then-has_any_part
-returns-then-has_any_part c = record {
-  made = any_made _ _ _ _ _ _ c.in-Union.is c.if-has_any_part.ensures;
-  kept = λ j lt. refl;
-}
+returns-then-has_any_part c =
+    let f = c.in-Some-run.ensures in
+    record {
+      made = any_made _ _ _ _ _ _ _ _ c.in-Union.is f.0 f.1 (omega (arith, f.1, f.2)) c.if-used-types.false c.if-has_any_part.ensures;
+      kept = λ j lt. refl;
+    }
 
-pub returns-in_default-add_parts : goal.returns-in_default-add_parts
-returns-in_default-add_parts c = record {
-  made = no_room_made _ _ _ _ _ _ c.in-Union.is c.if-has_any_part.ensures c.in_default-add_parts.ensures.adds;
-  kept = c.in_default-add_parts.ensures.kept;
-}
+pub returns-in-Some-eq0-clause-made : goal.returns-in-Some-eq0-clause-made
+returns-in-Some-eq0-clause-made c =
+    let f = c.in-Some-run.ensures in
+    union_lacking _ _ _ _ _ _ _ _ c.in-Union.is f.0 f.1 (omega (arith, f.1, f.2)) c.if-used-types.false c.if-has_any_part.ensures _ _ c.in-Some-eq0.ensures.adds c.in-Some-eq0.field-0-test
 
-pub returns-then-count-eq0 : goal.returns-then-count-eq0
-returns-then-count-eq0 c = record {
-  made = union_lacking _ _ _ _ _ _ c.in-Union.is c.if-has_any_part.ensures _ _ c.in-Some-add_parts.ensures.adds c.if-count-eq0.true;
-  kept = c.in-Some-add_parts.ensures.kept;
-}
+pub returns-in-Some-add_parts-clause-made : goal.returns-in-Some-add_parts-clause-made
+returns-in-Some-add_parts-clause-made c =
+    let f = c.in-Some-run.ensures in
+    union_part_made _ _ _ _ _ _ _ _ c.in-Union.is f.0 f.1 (omega (arith, f.1, f.2)) c.if-used-types.false c.if-has_any_part.ensures _ _ c.in-Some-add_parts.ensures.adds _ c.in-Some-add_parts.count-test.1 c.close.ensures
 
-pub returns : goal.returns
-returns c = record {
-  made = union_part_made _ _ _ _ _ _ c.in-Union.is c.if-has_any_part.ensures _ _ c.in-Some-add_parts.ensures.adds _ c.if-count-eq0.false c.close.ensures;
-  kept = c.in-Some-add_parts.ensures.kept;
-}
+pub returns-in-None-add_parts-clause-made : goal.returns-in-None-add_parts-clause-made
+returns-in-None-add_parts-clause-made c =
+    let f = c.in-Some-run.ensures in
+    no_room_made _ _ _ _ _ _ _ _ c.in-Union.is f.0 f.1 (omega (arith, f.1, f.2)) c.if-used-types.false c.if-has_any_part.ensures c.in-None-add_parts.ensures.adds _
