@@ -1,6 +1,6 @@
 pub mod Pieces
 pub mod Tables
-pub mod SortedWords
+pub mod WordRows
 pub mod Firsts
 pub mod DigitRuns
 pub mod Steps
