@@ -30,7 +30,11 @@ use Rattle.checker.specs.Performing.{Performs, refusing, saying}
 
 -- tables that are given back have their sizes
 pub same_sizes : {n m : ℕ} {t u : Tables} → n ≡ m → Lent t u → sizes_of n u ≡ sizes_of m t
-same_sizes e l = rw (e, l.operators.1, l.frames.1, l.types.1) refl
+same_sizes {n} {m} {t} {u} e l =
+    ap (λ x. record { of_tree = x; of_operators = length u.operators.now; of_frames = length u.frames.now; of_types = length u.types.now }) e
+    ∙ (ap (λ x. record { of_tree = m; of_operators = x; of_frames = length u.frames.now; of_types = length u.types.now }) l.operators.1
+    ∙ (ap (λ x. record { of_tree = m; of_operators = length t.operators.now; of_frames = x; of_types = length u.types.now }) l.frames.1
+    ∙ ap (λ x. record { of_tree = m; of_operators = length t.operators.now; of_frames = length t.frames.now; of_types = x }) l.types.1))
 
 -- tables that are given back, and then again
 pub lent_twice : {t u v : Tables} → Lent t u → Lent u v → Lent t v

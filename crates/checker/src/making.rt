@@ -76,7 +76,8 @@ impl<'a> Store<'a> {
         ensures makes { MakesFound self.old found room.now self.new result }
     {
         match found {
-            None | Some(Told::Scheme(_)) => Ok(self.plain(TypeEntry::Any)),
+            None => Ok(self.plain(TypeEntry::Any)),
+            Some(Told::Scheme(_)) => Ok(self.plain(TypeEntry::Any)),
             Some(Told::Typed(made)) => self.brought(room, made),
         }
     }

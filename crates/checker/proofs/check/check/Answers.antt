@@ -5,10 +5,10 @@ use Rattle.checker.proofs.Checking.{refuted, enough, checked_as}
 use Rattle.checker.proofs.check.check.Goals as goal
 
 pub returns-then-is_short-clause-checks : goal.returns-then-is_short-clause-checks
-returns-then-is_short-clause-checks g c = (short_table (c.is_short.ensures.0 c.if-is_short.true), refl, c.blank_out.ensures)
+returns-then-is_short-clause-checks g c = rw c.at.ensures (short_table (c.is_short.ensures.0 c.if-is_short.true), refl, c.blank_out.ensures)
 
 pub returns-then-not-proper-clause-checks : goal.returns-then-not-proper-clause-checks
-returns-then-not-proper-clause-checks g c = (
+returns-then-not-proper-clause-checks g c = rw c.at-then-not-proper.ensures (
   damaged (refuted _ c.is_short.ensures c.if-is_short.false) (λ p. refuted _ c.proper.ensures c.if-not-proper.true (subst (AllProper _ _) (sym c.used.ensures) p)),
   refl,
   c.blank_out.ensures,
@@ -17,7 +17,8 @@ returns-then-not-proper-clause-checks g c = (
 pub returns-in-Err-clause-checks : goal.returns-in-Err-clause-checks
 returns-in-Err-clause-checks g c =
     let long = refuted _ c.is_short.ensures c.if-is_short.false in
-    let e = enough _ long in (
+    let e = enough _ long in
+    rw c.at-in-Err.ensures (
       too_heavy long (subst (AllProper _ _) c.used.ensures (c.proper.ensures.0 c.if-not-proper.false))
           (λ ss ns rep typed. c.in-Err.ensures ss ns (subst (λ i. Listed c.args.tree.now i ss) (sym c.last.ensures) rep.listed) rep.small typed (g.F.Register.sound c.args.first.now) e.0 e.1 e.2 c.blank_out.ensures),
       refl,

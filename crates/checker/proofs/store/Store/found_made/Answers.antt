@@ -1,8 +1,17 @@
-use Rattle.std.proofs.Common.{◌≡◌, Some, ap, refl, ⊎_elim, ◌∙◌, arith}
+use Rattle.std.proofs.Common.{◌≡◌, Some, ap, ◌∙◌, arith}
 use Rattle.types.specs.Table.{is_any}
 use Rattle.registers.specs.declared.found.Told.{Told}
 use Rattle.checker.proofs.Madely.{plain_as, told_any, told_typed}
 use Rattle.checker.proofs.store.Store.found_made.Goals as goal
+
+pub returns-in-None-clause-makes : goal.returns-in-None-clause-makes
+returns-in-None-clause-makes c = λ ts o tabled long told.
+    plain_as _ _ _ _ c.plain.ensures (told_any o c.args.found c.args.room.now told (λ m e. let w = c.in-None.is in cc)) tabled is_any
+
+pub returns-in-Some-Scheme-clause-makes : goal.returns-in-Some-Scheme-clause-makes
+returns-in-Some-Scheme-clause-makes c = λ ts o tabled long told.
+    plain_as _ _ _ _ c.plain-in-Some-Scheme.ensures
+    (told_any o c.args.found c.args.room.now told (λ m e. let w = rw c.in-Some-Scheme.is at c.in-Some-Scheme.field-0-is in let v = c.in-Some-Scheme.is in cc)) tabled is_any
 
 pub returns-in-Some-Typed-clause-makes : goal.returns-in-Some-Typed-clause-makes
 returns-in-Some-Typed-clause-makes c = λ ts o tabled long told.
