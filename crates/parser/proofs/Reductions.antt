@@ -58,11 +58,6 @@ reduced_one table fs x y o least made waits room = record { turns = λ sheet las
     go sheet last k b e t low tree d q l (a_bracket f) r w h = never y refl q
     go sheet last k b e t low tree d q l (a_consequent p s f) r w h = never y refl q
 
-pub reduced_none : (table : List TreeEntry) (fs : List OperatorEntry) (o : Operand) (least : ℕ) → Reduced table fs o least table fs o
-reduced_none table fs o least = record {
-  turns = λ sheet last k b ps e t h l y. record { tight = k; tree = e; parts = ps; ended = h; goes = l; same = λ ts all. (λ x. x, λ x. x) };
-}
-
 pub reduced_more : {a b c : List TreeEntry} {fs gs hs : List OperatorEntry} {o p q : Operand} {least : ℕ} → Reduced a fs o least b gs p → Reduced b gs p least c hs q → Reduced a fs o least c hs q
 reduced_more r s = record {
   turns = λ sheet last k b ps e t h l y.
@@ -81,9 +76,6 @@ reduced_more r s = record {
 -- what holds of a builder with an entry more, by what it held before
 pub added : {entry : TreeEntry} {old new : Builder} {at : ℕ} (P : List TreeEntry → List OperatorEntry → ℕ → Option ℕ → ℕ → Type 0) → Adds entry old new at → P (set old.tree.now old.used entry) (held old.parts) (old.used + 1) old.last old.used → P new.tree.now (held new.parts) new.used new.last at
 added P a p = rw (a.tree, a.parts, a.used, a.last, a.index) p
-
-pub completes_none : (b : Builder) (at least : ℕ) → Completes b at least b at
-completes_none b at least = record { grown = record { lent = refl; long = refl; space = refl; few = omega arith }; last = refl; reduced = reduced_none _ _ _ _ }
 
 pub completes_more : {a b c : Builder} {i j k least : ℕ} → Completes a i least b j → Completes b j least c k → Completes a i least c k
 completes_more g h = record {

@@ -80,7 +80,7 @@ impl<'a> Builder<'a> {
             return None;
         }
         let entry = top.completed(at)?;
-        let _ = self.parts.pop();
+        self.parts.pop();
         Some(self.add(entry))
     }
 
