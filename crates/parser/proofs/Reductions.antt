@@ -5,7 +5,7 @@ use Rattle.parser.specs.declared.symbols.Token.{Token}
 use Rattle.parser.specs.declared.tree.TreeEntry.{TreeEntry}
 use Rattle.parser.specs.declared.tree.OperatorEntry.{OperatorEntry}
 use Rattle.parser.specs.declared.builder.Builder.{Builder}
-use Rattle.parser.specs.Building.{Adds, Grown}
+use Rattle.parser.specs.Building.{Adds, Completes}
 use Rattle.parser.specs.Syntax.{Expr}
 use Rattle.parser.specs.Table.{tree_at, Tree, binary_at, unary_at, choice_at, Proper, proper_unary, proper_binary, proper_choice}
 use Rattle.parser.specs.Machine.{Right, right_infix, right_prefix, otherwise, wanted, tightness, built, Part, right, wants, Ready}
@@ -58,11 +58,6 @@ reduced_one table fs x y o least made waits room = record { turns = λ sheet las
     go sheet last k b e t low tree d q l (a_bracket f) r w h = never y refl q
     go sheet last k b e t low tree d q l (a_consequent p s f) r w h = never y refl q
 
-pub reduced_none : (table : List TreeEntry) (fs : List OperatorEntry) (o : Operand) (least : ℕ) → Reduced table fs o least table fs o
-reduced_none table fs o least = record {
-  turns = λ sheet last k b ps e t h l y. record { tight = k; tree = e; parts = ps; ended = h; goes = l; same = λ ts all. (λ x. x, λ x. x) };
-}
-
 pub reduced_more : {a b c : List TreeEntry} {fs gs hs : List OperatorEntry} {o p q : Operand} {least : ℕ} → Reduced a fs o least b gs p → Reduced b gs p least c hs q → Reduced a fs o least c hs q
 reduced_more r s = record {
   turns = λ sheet last k b ps e t h l y.
@@ -82,9 +77,17 @@ reduced_more r s = record {
 pub added : {entry : TreeEntry} {old new : Builder} {at : ℕ} (P : List TreeEntry → List OperatorEntry → ℕ → Option ℕ → ℕ → Type 0) → Adds entry old new at → P (set old.tree.now old.used entry) (held old.parts) (old.used + 1) old.last old.used → P new.tree.now (held new.parts) new.used new.last at
 added P a p = rw (a.tree, a.parts, a.used, a.last, a.index) p
 
--- the tables grow by what two turns take
-pub grown_more : {n : ℕ} {a b c : Builder} → Grown 0 a b → Grown n b c → Grown n a c
-grown_more g h = record { lent = h.lent ∙ g.lent; long = h.long ∙ g.long; space = h.space ∙ g.space; few = omega (arith, g.few, h.few) }
+pub completes_more : {a b c : Builder} {i j k least : ℕ} → Completes a i least b j → Completes b j least c k → Completes a i least c k
+completes_more g h = record {
+  grown = record {
+    lent = h.grown.lent ∙ g.grown.lent;
+    long = h.grown.long ∙ g.grown.long;
+    space = h.grown.space ∙ g.grown.space;
+    few = omega (arith, g.grown.few, h.grown.few);
+  };
+  last = h.last ∙ g.last;
+  reduced = reduced_more g.reduced h.reduced;
+}
 
 -- the same, where the top was seen and then taken
 pub reduced_top : (table : List TreeEntry) (fs fs' rest : List OperatorEntry) (x : OperatorEntry) (y : TreeEntry) (r : Option OperatorEntry) (o : Operand) (least : ℕ) → fs ≡ x ∷ rest → MatchOption r ((fs ≡ []) × (fs' ≡ [])) (λ z. fs ≡ z ∷ fs') → completion x o.at ≡ Some y → least ≤ awaits x → o.used < length table → Reduced table fs o least (set table o.used y) fs' (record { at = o.used; used = o.used + 1 })

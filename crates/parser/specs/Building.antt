@@ -63,16 +63,9 @@ pub record Lowest (least : ℕ) (old new : Builder) : Type 0 where
   pub same : new ≡ old
   pub lower : Lower least (held old.parts)
 
--- the part on top is completed, with the operand at an index, and stands at another
-pub record CompletesTop (old : Builder) (at least : ℕ) (new : Builder) (at' : ℕ) : Type 0 where
+-- open parts that end with the operand at an index, and await one that binds as tightly as least, are completed, and what
+-- they make with it stands at another
+pub record Completes (old : Builder) (at least : ℕ) (new : Builder) (at' : ℕ) : Type 0 where
   pub grown : Grown 0 old new
   pub last : new.last ≡ old.last
-  pub less : length (held new.parts) < length (held old.parts)
-  pub reduced : Reduced old.tree.now (held old.parts) (operand old at) least new.tree.now (held new.parts) (operand new at')
-
--- all such parts are
-pub record CompletesAll (old : Builder) (at least : ℕ) (new : Builder) (at' : ℕ) : Type 0 where
-  pub grown : Grown 0 old new
-  pub last : new.last ≡ old.last
-  pub lower : Lower least (held new.parts)
   pub reduced : Reduced old.tree.now (held old.parts) (operand old at) least new.tree.now (held new.parts) (operand new at')

@@ -1,5 +1,5 @@
 // Builds the tree of a sheet, token by token: operators by their binding, on a stack of the parts that are still open.
-ghost use Rattle.std.specs.Prelude.{◌≡◌, ℕ, ◌≤◌, List, length, Some, None, MatchOption};
+ghost use Rattle.std.specs.Prelude.{◌≡◌, ℕ, ◌<◌, ◌≤◌, List, length, Some, None, MatchOption};
 ghost use Rattle.lexer.specs.Reading.{Lexes, finished};
 ghost use Rattle.lexer.specs.Scanning.{Tok};
 ghost use Rattle.parser.specs.Syntax.{Expr};
@@ -8,7 +8,7 @@ ghost use Rattle.parser.specs.Machine.{Part, State, want, after, wants, Dead};
 ghost use Rattle.stack.specs.Items.{held, room};
 ghost use Rattle.parser.specs.Holds.{Within, Lower, Sofar};
 ghost use Rattle.parser.specs.declared.builder.Position.TheVariants.{Want};
-ghost use Rattle.parser.specs.Building.{IsEmpty, HasRoom, Adds, Grown, CompletesTop, CompletesAll, WantsOperand, HasOperand, Stands, Turns, Lowest, progress};
+ghost use Rattle.parser.specs.Building.{IsEmpty, HasRoom, Adds, Grown, Completes, WantsOperand, HasOperand, Stands, Turns, Lowest, progress};
 ghost use Rattle.parser.specs.Reading.{tokens};
 ghost use Rattle.parser.specs.Parsing.{Parses};
 ghost use Rattle.parser.specs.declared.symbols.Token.{Token as AnyToken};
@@ -73,21 +73,22 @@ impl<'a> Builder<'a> {
     // `at`, and the index of the completed part is given.
     fn reduce_top(&mut self, at: usize, least: usize) -> Option<usize>
         requires { HasRoom self.old }
-        ensures { MatchOption result (Lowest least self.old self.new) (λ i. CompletesTop self.old at least self.new i) }
+        ensures { MatchOption result (Lowest least self.old self.new) (λ i. Completes self.old at least self.new i × (length (held self.new.parts) < length (held self.old.parts))) }
     {
         let top = self.parts.top()?;
         if top.awaits() < least {
             return None;
         }
         let entry = top.completed(at)?;
-        let _ = self.parts.pop();
+        self.parts.pop();
         Some(self.add(entry))
     }
 
     // Completes the parts that end with their operand and await one that binds as tightly as `least`, from the top down.
     fn reduce(&mut self, mut at: usize, least: usize) -> usize
         requires { HasRoom self.old }
-        ensures { CompletesAll self.old at least self.new result }
+        ensures completes { Completes self.old at least self.new result }
+        ensures lower { Lower least (held self.new.parts) }
     {
         while let Some(next) = self.reduce_top(at, least) {
             at = next;
