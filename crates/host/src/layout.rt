@@ -28,7 +28,7 @@ pub fn put_findings(out: &mut [u8], findings: &[Finding], count: usize)
     ensures { out.new ≡ replaced out.old 8 (rows (take (min (min count (length findings.now)) ((length out.old - 8) / 8)) findings.now)) }
 {
     let n = count.min(findings.len()).min((out.len() - 8) / 8);
-    // A loop over the parts of `out` would leave a proof with no more than their lengths.
+    // By index: of what is written through the chunks of `out`, a proof would know the length alone.
     for (i, finding) in findings[..n].iter().enumerate() {
         put_finding(out, 8 + 8 * i, *finding);
     }

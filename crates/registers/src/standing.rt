@@ -45,6 +45,7 @@ fn told_function(parameters: &[Basic], last: Basic, room: &mut [TypeEntry; 128])
     requires { length parameters.now < 128 }
     ensures { MadeIn room.new (function (basic_types parameters.now) (basic_type last)) result }
 {
+    // By index: of what is written through `iter_mut`, a proof would know the length alone.
     for (i, parameter) in parameters.iter().enumerate() {
         room[i] = TypeEntry::from(*parameter);
     }

@@ -1,4 +1,4 @@
-use Rattle.std.proofs.Common.{◌+◌, refl, ap, ◌∙◌, arith}
+use Rattle.std.proofs.Common.{◌≡◌, ◌+◌, refl, ap, ◌∙◌, arith}
 use Rattle.checker.specs.Findings.{number_of}
 use Rattle.host.specs.Layout.{word, replaced}
 use Rattle.host.proofs.Bytes.{joined}
@@ -8,6 +8,7 @@ pub returns : goal.returns
 returns c =
     let out = c.args.out.now in
     let at = c.args.at in
+    let kind : c.from.result ≡ number_of c.args.f.kind = cc in
     c.put-2.ensures
-    ∙ ap (λ o. replaced o (at + 4) (word c.args.f.place)) (c.put.ensures ∙ ap (λ k. replaced out at (word k)) (c.from.ensures ∙ c.number.ensures))
+    ∙ ap (λ o. replaced o (at + 4) (word c.args.f.place)) (c.put.ensures ∙ ap (λ k. replaced out at (word k)) kind)
     ∙ joined out at (word (number_of c.args.f.kind)) (word c.args.f.place) (at + 4) refl (omega arith)
