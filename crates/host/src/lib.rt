@@ -12,11 +12,12 @@ mod tables;
 
 use crate::layout::{put, put_findings};
 use crate::sheets::read_and_check;
-use crate::tables::Tables;
+use crate::tables::Arrays;
 use checker::finding::{BLANK, Finding};
 use checker::stage::Checked;
 use lexer::refusal::Refusal;
 use parser::read;
+use parser::tables::Tables;
 
 // The answer where `out` has no room for one.
 const NO_ROOM: u32 = 1;
@@ -51,14 +52,13 @@ pub fn sheet_read(sheet: &[u8], out: &mut [u8]) -> u32
     if out.len() < 8 {
         return NO_ROOM;
     }
-    let mut lent = Tables::new();
-    match read(
-        sheet,
-        &mut lent.tree,
-        &mut lent.operators,
-        &mut lent.frames,
-        &mut lent.types,
-    ) {
+    let mut own = Arrays::new();
+    let mut lent = Tables {
+        operators: &mut own.operators,
+        frames: &mut own.frames,
+        types: &mut own.types,
+    };
+    match read(sheet, &mut own.tree, &mut lent) {
         Ok(_) => 0,
         Err(e) => refused(out, e),
     }
@@ -74,9 +74,14 @@ pub fn sheet_check(sheet: &[u8], out: &mut [u8]) -> u32
     if out.len() < 8 {
         return NO_ROOM;
     }
-    let mut lent = Tables::new();
+    let mut own = Arrays::new();
+    let mut lent = Tables {
+        operators: &mut own.operators,
+        frames: &mut own.frames,
+        types: &mut own.types,
+    };
     let mut findings = [BLANK; 4096];
-    match read_and_check(sheet, &mut lent, &mut findings) {
+    match read_and_check(sheet, &mut own.tree, &mut lent, &mut findings) {
         Ok(c) => checked(out, &c, &findings),
         Err(e) => refused(out, e),
     }

@@ -3,16 +3,16 @@ use parser::tree::{OperatorEntry, TreeEntry, WalkFrame};
 use types::entries::TypeEntry;
 
 #[derive(Drop)]
-pub struct Tables {
+pub struct Arrays {
     pub tree: [TreeEntry; 4096],
     pub operators: [OperatorEntry; 4096],
     pub frames: [WalkFrame; 4096],
     pub types: [TypeEntry; 8192],
 }
 
-impl Tables {
+impl Arrays {
     pub fn new() -> Self {
-        Tables {
+        Arrays {
             tree: [TreeEntry::Blank; 4096],
             operators: [OperatorEntry::Blank; 4096],
             frames: [WalkFrame::Blank; 4096],

@@ -7,16 +7,13 @@ use checker::calls::{Answer, Call};
 use checker::finding::Finding;
 use checker::run::run;
 use checker::stage::Checked;
+use parser::tables;
+use parser::tables::{ENTRIES, TYPES};
 use parser::tree::{OperatorEntry, TreeEntry, WalkFrame};
 use registers::empty::Empty;
 use registers::library::Library;
 use std::alloc::{AllocError, Global};
 use types::entries::TypeEntry;
-
-// The sizes that a check asks for.
-const ENTRIES: usize = 4096;
-
-const TYPES: usize = 8192;
 
 // What is answered of a sheet. One that was checked can be asked for its types.
 #[derive(Drop)]
@@ -55,15 +52,18 @@ impl Tables {
         ensures { Answered sheet.now result findings.new self.new.types.items }
     {
         let mut said = [Answer::Blank];
+        let mut lent = tables::Tables {
+            operators: &mut self.operators,
+            frames: &mut self.frames,
+            types: &mut self.types,
+        };
         let checked = run(
             &Library,
             &Empty,
             &[Call::Check { sheet }],
             &mut said,
             &mut self.tree,
-            &mut self.operators,
-            &mut self.frames,
-            &mut self.types,
+            &mut lent,
             findings,
         );
         let [answer] = said;

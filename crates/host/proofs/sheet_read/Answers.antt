@@ -7,9 +7,9 @@ pub returns-then-out-lt8 : goal.returns-then-out-lt8
 returns-then-out-lt8 c = no_room_to_read c.if-out-lt8.true
 
 pub returns-in-Ok : goal.returns-in-Ok
-returns-in-Ok c = tell_program c.args.sheet.now c.args.out.now (full (omega arith) (omega arith) (omega arith) (omega arith)) c.if-out-lt8.false c.args.out.now 0 _ (readable c.in-Ok.ensures)
+returns-in-Ok c = tell_program c.args.sheet.now c.args.out.now (full (omega arith) (omega arith) (omega arith) (omega arith)) c.if-out-lt8.false c.args.out.now 0 _ (readable c.in-Ok.ensures.reads)
 
 pub returns-in-Err : goal.returns-in-Err
 returns-in-Err c =
-    tell_unread c.args.sheet.now c.args.out.now (full (omega arith) (omega arith) (omega arith) (omega arith)) c.if-out-lt8.false c.refused.new.out c.refused.result c.in-Err.e c.in-Err.ensures
+    tell_unread c.args.sheet.now c.args.out.now (full (omega arith) (omega arith) (omega arith) (omega arith)) c.if-out-lt8.false c.refused.new.out c.refused.result c.in-Err.e c.in-Err.ensures.reads
     c.refused.ensures.written c.refused.ensures.number
