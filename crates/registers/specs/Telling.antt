@@ -3,14 +3,14 @@ use Rattle.std.specs.Prelude.{◌≡◌, ◌<◌, ◌≤◌, List, Some, None, O
 use Rattle.types.specs.declared.entries.TypeEntry.{TypeEntry}
 use Rattle.types.specs.Types.{Ty}
 use Rattle.types.specs.Table.{Is}
-use Rattle.building.specs.declared.unions.Made.{Made}
+use Rattle.types.specs.declared.entries.Root.{Root}
 use Rattle.building.specs.Weights.{weight}
 use Rattle.building.specs.Made.{Filled}
 use Rattle.registers.specs.declared.found.Found.{Found}
 use Rattle.registers.specs.Meaning.{Binding, typed, scheme}
 
 -- m is the type t, whose parts are the first entries of the run, fewer than the type weighs
-pub record MadeIn (es : List TypeEntry) (t : Ty) (m : Made) : Type 0 where
+pub record MadeIn (es : List TypeEntry) (t : Ty) (m : Root) : Type 0 where
   pub holds : Is es m.used m.entry t
   pub within : m.used ≤ 128
   pub light : m.used < weight t
@@ -20,4 +20,4 @@ pub record MadeIn (es : List TypeEntry) (t : Ty) (m : Made) : Type 0 where
 abbrev pub Tells : Option Binding → Found → List TypeEntry → Type 0
 Tells None r es = r ≡ Found.Nothing
 Tells (Some (scheme s)) r es = r ≡ Found.Scheme s
-Tells (Some (typed t)) r es = (m : Made) × (r ≡ Found.Typed m) × MadeIn es t m
+Tells (Some (typed t)) r es = (m : Root) × (r ≡ Found.Typed m) × MadeIn es t m

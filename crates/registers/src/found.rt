@@ -1,5 +1,5 @@
 // What a register answers.
-use building::unions::Made;
+use types::entries::Root;
 
 // A scheme, by which a call is typed.
 #[derive(Clone, Copy)]
@@ -15,5 +15,5 @@ pub enum Scheme {
 pub enum Found {
     Nothing,
     Scheme(Scheme),
-    Typed(Made),
+    Typed(Root),
 }

@@ -4,8 +4,7 @@ ghost use Rattle.registers.specs.Standings.{basic_entry, binding_of};
 ghost use Rattle.registers.specs.Telling.{Tells};
 
 use crate::found::{Found, Scheme};
-use building::unions::Made;
-use types::entries::TypeEntry;
+use types::entries::{Root, TypeEntry};
 
 // A type without parts.
 #[derive(Clone, Copy)]
@@ -45,13 +44,13 @@ pub fn told(standing: Standing, room: &mut [TypeEntry; 128]) -> Found
 {
     match standing {
         Standing::Scheme(scheme) => Found::Scheme(scheme),
-        Standing::Plain(t) => Found::Typed(Made {
+        Standing::Plain(t) => Found::Typed(Root {
             entry: entry_of(t),
             used: 0,
         }),
         Standing::Nullary(result) => {
             room[0] = entry_of(result);
-            Found::Typed(Made {
+            Found::Typed(Root {
                 entry: TypeEntry::Function { first: 0, count: 0 },
                 used: 1,
             })
@@ -59,7 +58,7 @@ pub fn told(standing: Standing, room: &mut [TypeEntry; 128]) -> Found
         Standing::Unary(parameter, result) => {
             room[0] = entry_of(parameter);
             room[1] = entry_of(result);
-            Found::Typed(Made {
+            Found::Typed(Root {
                 entry: TypeEntry::Function { first: 0, count: 1 },
                 used: 2,
             })
@@ -68,7 +67,7 @@ pub fn told(standing: Standing, room: &mut [TypeEntry; 128]) -> Found
             room[0] = entry_of(parameter);
             room[1] = entry_of(second);
             room[2] = entry_of(result);
-            Found::Typed(Made {
+            Found::Typed(Root {
                 entry: TypeEntry::Function { first: 0, count: 2 },
                 used: 3,
             })
