@@ -6,7 +6,7 @@ use Rattle.types.specs.Types.{Ty, any, number, number_literal, string, no_types,
 use Rattle.types.specs.declared.kinds.Kind.TheVariants.{Number, String}
 use Rattle.types.specs.Kinds.{number_kind, string_kind}
 use Rattle.types.specs.Table.{Is}
-use Rattle.building.specs.declared.unions.Made.{Made}
+use Rattle.types.specs.declared.entries.Root.{Root}
 use Rattle.building.specs.Unions.{UnionOf, union_more, brings_none, brings_itself, In, in_first, in_other, Precedes, order_none, order_more}
 use Rattle.building.specs.Literals.{Numeral, GivesNumber}
 use Rattle.building.proofs.Filled.{filled_none}
@@ -41,7 +41,7 @@ plain_ready s e t tabled h =
 pub plain_as : (s : Store) {ts : List Ty} (e : TypeEntry) (t u : Ty) → u ≡ t → Tabled s ts → Is (entries s) s.used e t → Ready s s u (Some (record { entry = e; used = s.used }))
 plain_as s e t u q tabled h = subst (λ x. Ready s s x (Some (record { entry = e; used = s.used }))) (sym q) (plain_ready s e t tabled h)
 
-pub ready_as : (s r : Store) (m : Option Made) {t u : Ty} → u ≡ t → Ready s r t m → Ready s r u m
+pub ready_as : (s r : Store) (m : Option Root) {t u : Ty} → u ≡ t → Ready s r t m → Ready s r u m
 ready_as s r m q h = subst (λ x. Ready s r x m) (sym q) h
 
 -- `number | string` is the union of its two members
@@ -71,12 +71,12 @@ as_literal sheet Γ p n text t cs {l} e same rule = subst (λ x. LiteralForm x t
 
 -- what a register told is no type, or a type
 
-pub told_any : (o : Option Binding) (found : Found) (room : List TypeEntry) → Tells o found room → ((m : Made) → found ≡ Found.Typed m → ⊥) → type_of o ≡ any
+pub told_any : (o : Option Binding) (found : Found) (room : List TypeEntry) → Tells o found room → ((m : Root) → found ≡ Found.Typed m → ⊥) → type_of o ≡ any
 told_any None found room h no-type = refl
 told_any (Some (scheme s)) found room h no-type = refl
 told_any (Some (typed t)) found room h no-type = absurd (no-type h.0 h.1)
 
-pub told_typed : (o : Option Binding) (found : Found) (m : Made) (room : List TypeEntry) → Tells o found room → found ≡ Found.Typed m → MadeIn room (type_of o) m
+pub told_typed : (o : Option Binding) (found : Found) (m : Root) (room : List TypeEntry) → Tells o found room → found ≡ Found.Typed m → MadeIn room (type_of o) m
 told_typed None found m room h e = let z : ◌≡◌ {A = ℕ} 0 1 = cc in absurd (omega arith)
 told_typed (Some (scheme s)) found m room h e = let z : ◌≡◌ {A = ℕ} 0 1 = cc in absurd (omega arith)
 told_typed (Some (typed t)) found m room h e = let same : h.0 ≡ m = cc in subst (MadeIn room t) same h.2

@@ -8,7 +8,7 @@ use Rattle.types.specs.Values.{Text}
 use Rattle.types.specs.Types.{Ty, any, string_literal, no_types, ◌and◌}
 use Rattle.types.specs.Table.{Is, entry_at}
 use Rattle.types.proofs.Lower.{lower_only, higher}
-use Rattle.building.specs.declared.unions.Made.{Made}
+use Rattle.types.specs.declared.entries.Root.{Root}
 use Rattle.building.specs.Made.{Filled, Kept, TypeMade, TypeOrNone, UnionOrNone, CopyOrNone}
 use Rattle.building.specs.Unions.{UnionOf}
 use Rattle.building.specs.Weights.{weight}
@@ -19,12 +19,12 @@ use Rattle.checker.specs.Findings.{weigh}
 use Rattle.checker.specs.Stores.{entries, Tabled, InHand, Ready, KeptType}
 
 -- the type t made in a part of the table, or there is no room for it in that part
-abbrev pub PartMade : List TypeEntry → List TypeEntry → ℕ → Ty → Option Made → Type 0
+abbrev pub PartMade : List TypeEntry → List TypeEntry → ℕ → Ty → Option Root → Type 0
 PartMade old new used t (Some m) = TypeMade new used t m
 PartMade old new used t None = length old < used + weight t
 
 -- a union is such a type
-pub union_part : (old new : List TypeEntry) (used : ℕ) {s t u : Ty} (r : Option Made) → UnionOf (s and t and no_types) u → UnionOrNone old new used (s and t and no_types) r → PartMade old new used u r
+pub union_part : (old new : List TypeEntry) (used : ℕ) {s t u : Ty} (r : Option Root) → UnionOf (s and t and no_types) u → UnionOrNone old new used (s and t and no_types) r → PartMade old new used u r
 union_part old new used (Some m) h w =
     subst (λ x. TypeMade new used x m) (union_is_one w.is_union h) (record { holds = w.holds; more = w.more; within = w.within; light = w.light; filled = w.filled })
 union_part old new used None h w = w _ h
@@ -65,13 +65,13 @@ module _ (s : Store) (limit : ℕ) {ts : List Ty} (tabled : Tabled s ts) (is-lim
     taken : {e : TypeEntry} {t : Ty} (n : ℕ) → n ≤ limit → Is new n e t → Is (entries r) n e t
     taken {e} {t} n l h = lower_only new (entries r) n e t (λ k q. sym (low k (omega arith))) h
 
-    in_hand : (t : Ty) (m : Option Made) → r.used ≡ s.used → r.count ≡ s.count → r.load ≡ s.load → PartMade old new s.used t m → InHand r t m
+    in_hand : (t : Ty) (m : Option Root) → r.used ≡ s.used → r.count ≡ s.count → r.load ≡ s.load → PartMade old new s.used t m → InHand r t m
     in_hand t (Some m) u c l h =
         let within : m.used ≤ limit = omega (arith, h.within, long, old_long) in
         (taken m.used within h.holds, omega (arith, h.more), omega (arith, h.light), omega (arith, room, tabled.light, tabled.within), subst (λ n. Filled (entries r) n m.used) (sym u) (filled_kept s.used m.used (λ j q. low j (omega arith)) h.filled))
     in_hand t None u c l h = omega (arith, old_long, room, tabled.light, tabled.within)
 
-    pub part_ready : (t : Ty) (m : Option Made) → r.used ≡ s.used → r.count ≡ s.count → r.load ≡ s.load → r.heavy ≡ s.heavy → Kept old new s.used → PartMade old new s.used t m → Ready s r t m
+    pub part_ready : (t : Ty) (m : Option Root) → r.used ≡ s.used → r.count ≡ s.count → r.load ≡ s.load → r.heavy ≡ s.heavy → Kept old new s.used → PartMade old new s.used t m → Ready s r t m
     part_ready t m u c l v k h = record {
       used = u;
       count = c;
@@ -84,7 +84,7 @@ module _ (s : Store) (limit : ℕ) {ts : List Ty} (tabled : Tabled s ts) (is-lim
     }
 
 -- what the table held it holds still
-pub tabled_ready : {s r : Store} {ts : List Ty} {t : Ty} {m : Option Made} → Tabled s ts → Ready s r t m → Tabled r ts
+pub tabled_ready : {s r : Store} {ts : List Ty} {t : Ty} {m : Option Root} → Tabled s ts → Ready s r t m → Tabled r ts
 tabled_ready {s} {r} {ts} h k = record {
   size = omega (arith, h.size, k.long);
   count = k.count ∙ h.count;
@@ -100,11 +100,11 @@ tabled_ready {s} {r} {ts} h k = record {
 }
 
 -- a string is made as its units, a copy as the entries that it has in use
-pub string_part : (old new : List TypeEntry) (used : ℕ) (s : Text) (r : Option Made) → TypeOrNone old new used (length s.units) (string_literal s) r → PartMade old new used (string_literal s) r
+pub string_part : (old new : List TypeEntry) (used : ℕ) (s : Text) (r : Option Root) → TypeOrNone old new used (length s.units) (string_literal s) r → PartMade old new used (string_literal s) r
 string_part old new used s (Some m) h = h
 string_part old new used s None h = omega arith
 
-pub copy_part : (old new : List TypeEntry) (used : ℕ) (t : Ty) (m : Made) (r : Option Made) → m.used < weight t → CopyOrNone old new used t m r → PartMade old new used t r
+pub copy_part : (old new : List TypeEntry) (used : ℕ) (t : Ty) (m : Root) (r : Option Root) → m.used < weight t → CopyOrNone old new used t m r → PartMade old new used t r
 copy_part old new used t m (Some c) l h = record { holds = h.holds; more = omega (arith, h.used_is); within = h.within; light = omega (arith, h.used_is); filled = h.filled }
 copy_part old new used t m None l h = omega arith
 
@@ -112,7 +112,7 @@ pub weigh_append : (ts us : List Ty) → weigh (ts ++ us) ≡ weigh ts + weigh u
 weigh_append [] us = omega arith
 weigh_append (t ∷ ts) us = omega (arith, weigh_append ts us)
 
-module _ (s : Store) (m : Made) (t : Ty) {ts : List Ty} (tabled : Tabled s ts) (h : InHand s t (Some m)) (w : ℕ) (weighs : w ≡ min (weight t) 8193) where
+module _ (s : Store) (m : Root) (t : Ty) {ts : List Ty} (tabled : Tabled s ts) (h : InHand s t (Some m)) (w : ℕ) (weighs : w ≡ min (weight t) 8193) where
   -- one type more
   pub kept_type : (r : Store) → w ≤ 8192 - s.load → entries r ≡ set (entries s) (8191 - s.count) m.entry → r.used ≡ m.used → r.count ≡ s.count + 1 → r.load ≡ s.load + w → r.heavy ≡ s.heavy → KeptType s m t ts r
   kept_type r fits put used count load heavy = record { heavy = heavy; tabled = record { size = size; count = omega (arith, count, tabled.count, length_push ts t); load = omega (arith, load, exact, tabled.load, weigh_append ts (t ∷ [])); light = omega (arith, used, count, load, free); within = omega (arith, load, tabled.within); heads = heads; filled = subst (Filled (entries r) 0) (sym used) (filled_kept 0 m.used kept (filled_joined 0 s.used m.used tabled.filled h.4)) }; kept = kept; used = used }

@@ -5,7 +5,7 @@ use Rattle.types.specs.declared.entries.TypeEntry.{TypeEntry}
 use Rattle.types.specs.Types.{Ty, boolean, no_types, ◌and◌}
 use Rattle.types.specs.Table.{Is}
 use Rattle.types.proofs.Lower.{lower_only, higher}
-use Rattle.building.specs.declared.unions.Made.{Made}
+use Rattle.types.specs.declared.entries.Root.{Root}
 use Rattle.building.specs.Forms.{InForm}
 use Rattle.building.specs.Made.{Kept}
 use Rattle.building.specs.Unions.{UnionOf}
@@ -59,7 +59,7 @@ module _ {sheet : List ℕ} {Γ : Meaning} {table : List TreeEntry} {whole : Lis
       go (going {rest = rest} o all enough small brief) = too_heavy e (subst (λ ns. 8192 < weigh (types ns)) all (omega (arith, more_load h.notes rest u)))
 
   -- or it is kept
-  pub ended_kept : {fs : List WalkFrame} (w v : State) (p : ℕ) (u : Ty) (m : Made) (h : Ending sheet Γ table whole left fs w p u) → InHand w.store u (Some m)
+  pub ended_kept : {fs : List WalkFrame} (w v : State) (p : ℕ) (u : Ty) (m : Root) (h : Ending sheet Γ table whole left fs w p u) → InHand w.store u (Some m)
       → KeptType w.store m u (types h.notes) v.store → (length (held w.operators) < room w.operators → held v.operators ≡ Operand p m.entry ∷ held w.operators)
       → room v.operators ≡ room w.operators → v.frames ≡ w.frames → v.findings ≡ w.findings → Goes sheet Γ table whole left fs v
   ended_kept {fs} w v p u m h i k push space frames findings = record {
@@ -106,7 +106,7 @@ module _ {sheet : List ℕ} {Γ : Meaning} {table : List TreeEntry} {whole : Lis
       omega arith
 
   -- once its conditions are asked and its type is in hand, it has ended
-  pub finished : (w v : State) (gs : List OperatorEntry) (p : ℕ) (u : Ty) (cs : List Condition) (m : Option Made) → Finishing sheet Γ table whole left fs w gs p u cs
+  pub finished : (w v : State) (gs : List OperatorEntry) (p : ℕ) (u : Ty) (cs : List Condition) (m : Option Root) → Finishing sheet Γ table whole left fs w gs p u cs
       → held v.operators ≡ gs → room v.operators ≡ room w.operators → v.frames ≡ w.frames → Asks w.findings cs v.findings → Ready w.store v.store u m
       → Ending sheet Γ table whole left fs v p u
   finished w v gs p u cs m h taken space frames ask ready = record {

@@ -4,7 +4,7 @@ use Rattle.types.specs.declared.entries.TypeEntry.{TypeEntry}
 use Rattle.types.specs.Values.{Decimal, Text}
 use Rattle.types.specs.Types.{Ty, number_literal, string_literal, true_literal, false_literal, null}
 use Rattle.types.specs.Table.{Is}
-use Rattle.building.specs.declared.unions.Made.{Made}
+use Rattle.types.specs.declared.entries.Root.{Root}
 use Rattle.building.specs.Forms.{InForm}
 use Rattle.building.specs.Literals.{Numeral, SpelledString}
 use Rattle.registers.specs.declared.found.Found.{Found}
@@ -20,22 +20,22 @@ use Rattle.checker.specs.Rules.{part, type_of, LeafRule, PrefixRule}
 use Rattle.checker.specs.Forms.{Form}
 use Rattle.checker.specs.Stores.{entries, Tabled, Ready}
 
-abbrev pub MakesPrefix : Store → Prefix → Option Made → Type 0
+abbrev pub MakesPrefix : Store → Prefix → Option Root → Type 0
 MakesPrefix s op m = (ts : List Ty) (q : ℕ) (t u : Ty) (cs : List Condition) → Tabled s ts → PrefixRule q t op u cs → Ready s s u m
 
-abbrev pub MakesInfix : Store → Rule → TypeEntry → Store → Option Made → Type 0
+abbrev pub MakesInfix : Store → Rule → TypeEntry → Store → Option Root → Type 0
 MakesInfix s rule b r m =
     (ts : List Ty) (p q : ℕ) (t u v : Ty) (cs : List Condition) → Tabled s ts → Is (entries s) s.used b u → InForm u → Form rule p t q u v cs → Ready s r v m
 
-abbrev pub MakesLiteral : Store → Leaf → List ℕ → Store → Option Made → Type 0
+abbrev pub MakesLiteral : Store → Leaf → List ℕ → Store → Option Root → Type 0
 MakesLiteral s leaf text r m =
     (ts : List Ty) (sheet : List ℕ) (Γ : Meaning) (p n : ℕ) (t : Ty) (cs : List Condition) → Tabled s ts → text ≡ part sheet p n → (leaf ≢ Name)
     → LeafRule sheet Γ p n leaf t cs → Ready s r t m
 
-abbrev pub MakesFound : Store → Found → List TypeEntry → Store → Option Made → Type 0
+abbrev pub MakesFound : Store → Found → List TypeEntry → Store → Option Root → Type 0
 MakesFound s found room r m = (ts : List Ty) (o : Option Binding) → Tabled s ts → length room ≡ 128 → Tells o found room → Ready s r (type_of o) m
 
-abbrev pub MakesNumber : ℕ → List ℕ → Option Made → Type 0
+abbrev pub MakesNumber : ℕ → List ℕ → Option Root → Type 0
 MakesNumber used text m = (s : Store) (ts : List Ty) (d : Decimal) → Tabled s ts → s.used ≡ used → Numeral text d → Ready s s (number_literal d) m
 
 -- the type of a token that is no name, by its text

@@ -5,7 +5,7 @@ use Rattle.stack.specs.Items.{held, room}
 use Rattle.types.specs.declared.entries.TypeEntry.{TypeEntry}
 use Rattle.types.specs.Types.{Ty}
 use Rattle.types.specs.Table.{Is}
-use Rattle.building.specs.declared.unions.Made.{Made}
+use Rattle.types.specs.declared.entries.Root.{Root}
 use Rattle.building.specs.Forms.{InForm}
 use Rattle.registers.specs.Meaning.{Meaning, Sound}
 use Rattle.parser.specs.declared.symbols.Leaf.{Leaf}
@@ -95,7 +95,7 @@ module _ (sheet : List ℕ) (Γ : Meaning) (table : List TreeEntry) (whole : Lis
     goes_on : Goes fs w → Stands fs w
 
 -- an expression has ended, where that is what is owed
-abbrev pub Ends : Walk → Store → ℕ → Option Made → Walk → Store → Type 0
+abbrev pub Ends : Walk → Store → ℕ → Option Root → Walk → Store → Type 0
 Ends w s p m v r =
     (sheet : List ℕ) (Γ : Meaning) (table : List TreeEntry) (whole : List Note) (left : ℕ) (f : First Finding) (u : Ty) →
     Ending sheet Γ table whole left (held w.frames) (state w f s) p u → InHand s u m → Stands sheet Γ table whole left (held v.frames) (state v f r)

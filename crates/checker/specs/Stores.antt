@@ -4,7 +4,7 @@ use Rattle.types.specs.declared.entries.TypeEntry.{TypeEntry}
 use Rattle.types.specs.Types.{Ty, any, string_literal, no_types, ◌and◌}
 use Rattle.types.specs.Values.{Text}
 use Rattle.types.specs.Table.{Is, entry_at}
-use Rattle.building.specs.declared.unions.Made.{Made}
+use Rattle.types.specs.declared.entries.Root.{Root}
 use Rattle.building.specs.Forms.{InForm}
 use Rattle.building.specs.Made.{Filled, Kept}
 use Rattle.building.specs.Unions.{UnionOf}
@@ -27,12 +27,12 @@ pub record Tabled (s : Store) (ts : List Ty) : Type 0 where
   pub filled : Filled (entries s) 0 s.used
 
 -- the type t is in hand, with its parts in the table; or there is no room, and then the load is too high with it
-abbrev pub InHand : Store → Ty → Option Made → Type 0
+abbrev pub InHand : Store → Ty → Option Root → Type 0
 InHand s t (Some m) = Is (entries s) m.used m.entry t × (s.used ≤ m.used) × (m.used < s.used + weight t) × (m.used + s.count ≤ 8192) × Filled (entries s) s.used m.used
 InHand s t None = 8192 < s.load + weight t
 
 -- s became r while the type t was made: nothing else was changed
-pub record Ready (s r : Store) (t : Ty) (m : Option Made) : Type 0 where
+pub record Ready (s r : Store) (t : Ty) (m : Option Root) : Type 0 where
   pub used : r.used ≡ s.used
   pub count : r.count ≡ s.count
   pub load : r.load ≡ s.load
@@ -43,30 +43,30 @@ pub record Ready (s r : Store) (t : Ty) (m : Option Made) : Type 0 where
   pub in_hand : InHand r t m
 
 -- s became r while the union of the types a and b was made
-abbrev pub Unites : Store → TypeEntry → TypeEntry → Store → Option Made → Type 0
+abbrev pub Unites : Store → TypeEntry → TypeEntry → Store → Option Root → Type 0
 Unites s a b r m =
     (ts : List Ty) (t u v : Ty) → Tabled s ts → Is (entries s) s.used a t → Is (entries s) s.used b u → InForm t → InForm u → UnionOf (t and u and no_types) v
     → Ready s r v m
 
 -- the same for the string that a text writes
-abbrev pub Spells : Store → List ℕ → Store → Option Made → Type 0
+abbrev pub Spells : Store → List ℕ → Store → Option Root → Type 0
 Spells s text r m = (ts : List Ty) (t : Text) → Tabled s ts → SpelledString text t → Ready s r (string_literal t) m
 
 -- the same for a type whose parts stand in other entries, fewer than it weighs
-abbrev pub Brings : Store → List TypeEntry → Made → Store → Option Made → Type 0
+abbrev pub Brings : Store → List TypeEntry → Root → Store → Option Root → Type 0
 Brings s others made r m = (ts : List Ty) (t : Ty) → Tabled s ts → made.used ≤ length others → Filled others 0 made.used → made.used < weight t → Is others made.used made.entry t → Ready s r t m
 
 -- the type t in hand is kept as that of the next expression
-pub record KeptType (s : Store) (m : Made) (t : Ty) (ts : List Ty) (r : Store) : Type 0 where
+pub record KeptType (s : Store) (m : Root) (t : Ty) (ts : List Ty) (r : Store) : Type 0 where
   pub heavy : r.heavy ≡ s.heavy
   pub tabled : Tabled r (ts ++ t ∷ [])
   pub kept : Kept (entries s) (entries r) m.used
   pub used : r.used ≡ m.used
 
 -- r is s with it, or its load is too high
-abbrev pub KeptOrHeavy : Store → Made → Ty → List Ty → Store → Bool → Type 0
+abbrev pub KeptOrHeavy : Store → Root → Ty → List Ty → Store → Bool → Type 0
 KeptOrHeavy s m t ts r true = KeptType s m t ts r
 KeptOrHeavy s m t ts r false = (r.heavy ≡ true) × (8192 < weigh ts + weight t)
 
-abbrev pub KeepsType : Store → Made → Store → Bool → Type 0
+abbrev pub KeepsType : Store → Root → Store → Bool → Type 0
 KeepsType s m r b = (ts : List Ty) (t : Ty) → Tabled s ts → InHand s t (Some m) → KeptOrHeavy s m t ts r b

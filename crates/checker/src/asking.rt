@@ -9,7 +9,7 @@ use crate::rules::Rule;
 use crate::store::Store;
 use crate::walk::Operand;
 use parser::symbols::Prefix;
-use types::entries::TypeEntry;
+use types::entries::{Root, TypeEntry};
 use types::meeting::meets;
 
 // A finding, where a condition is not met.
@@ -28,7 +28,15 @@ pub fn ask_fits(findings: &mut First<Finding>, store: &Store, v: Operand, asked:
     ensures asked { AsksFits findings.old store.now v asked findings.new }
 {
     let entries = &*store.entries;
-    let met = meets(entries, store.used, v.entry, 0, asked);
+    let held = Root {
+        entry: v.entry,
+        used: store.used,
+    };
+    let plain = Root {
+        entry: asked,
+        used: 0,
+    };
+    let met = meets(entries, held, plain);
     ask(findings, met, Kind::Clash, v.place);
 }
 

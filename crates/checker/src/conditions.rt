@@ -1,27 +1,49 @@
 // Tests of conditions, over types in hand whose parts stand below an index of the type table.
 ghost use Rattle.checker.specs.Entries.{SaysBothMeet, SaysCompare, SaysNumberOrString, SaysNumeric, SaysTextual};
 
-use types::entries::TypeEntry;
+use types::entries::{Root, TypeEntry};
 use types::meeting::meets;
 
 // Whether the type has a number or a string among its values.
 pub fn meets_number_or_string(types: &[TypeEntry], n: usize, e: TypeEntry) -> bool
     ensures { SaysNumberOrString types.now n e result }
 {
-    if meets(types, n, e, 0, TypeEntry::Number) {
+    if meets(
+        types,
+        Root { entry: e, used: n },
+        Root {
+            entry: TypeEntry::Number,
+            used: 0,
+        },
+    ) {
         return true;
     }
-    meets(types, n, e, 0, TypeEntry::String)
+    meets(
+        types,
+        Root { entry: e, used: n },
+        Root {
+            entry: TypeEntry::String,
+            used: 0,
+        },
+    )
 }
 
 // Whether two types both meet a third one, which has no parts.
 fn both_meet(types: &[TypeEntry], n: usize, a: TypeEntry, b: TypeEntry, e: TypeEntry) -> bool
     ensures { SaysBothMeet types.now n a b e result }
 {
-    if !meets(types, n, a, 0, e) {
+    if !meets(
+        types,
+        Root { entry: a, used: n },
+        Root { entry: e, used: 0 },
+    ) {
         return false;
     }
-    meets(types, n, b, 0, e)
+    meets(
+        types,
+        Root { entry: b, used: n },
+        Root { entry: e, used: 0 },
+    )
 }
 
 // Whether two types have values that can be compared: two numbers or two strings.

@@ -6,9 +6,9 @@ ghost use Rattle.checker.specs.Stores.{Brings, KeepsType, Spells, Unites};
 
 use building::copies::copied;
 use building::literals::string_of;
-use building::unions::{Made, union_of_two};
+use building::unions::union_of_two;
 use building::weights::weight_within;
-use types::entries::TypeEntry;
+use types::entries::{Root, TypeEntry};
 
 // The entries of the type table that a check asks for.
 pub const TYPES: usize = 8192;
@@ -38,7 +38,7 @@ fn limit_of(count: usize, all: usize) -> usize
 }
 
 // The union of two types.
-pub fn united(store: &mut Store, a: TypeEntry, b: TypeEntry) -> Option<Made>
+pub fn united(store: &mut Store, a: TypeEntry, b: TypeEntry) -> Option<Root>
     ensures lent { store.new.entries.ghost_name ≡ store.old.entries.ghost_name }
     ensures united { Unites store.old a b store.new result }
 {
@@ -48,7 +48,7 @@ pub fn united(store: &mut Store, a: TypeEntry, b: TypeEntry) -> Option<Made>
 }
 
 // The type of the string that a text writes.
-pub fn spelled(store: &mut Store, text: &[u8]) -> Option<Made>
+pub fn spelled(store: &mut Store, text: &[u8]) -> Option<Root>
     ensures lent { store.new.entries.ghost_name ≡ store.old.entries.ghost_name }
     ensures spelled { Spells store.old text.now store.new result }
 {
@@ -58,7 +58,7 @@ pub fn spelled(store: &mut Store, text: &[u8]) -> Option<Made>
 }
 
 // The type that a register told, whose parts stand in other entries.
-pub fn brought(store: &mut Store, others: &[TypeEntry], made: Made) -> Option<Made>
+pub fn brought(store: &mut Store, others: &[TypeEntry], made: Root) -> Option<Root>
     ensures lent { store.new.entries.ghost_name ≡ store.old.entries.ghost_name }
     ensures brought { Brings store.old others.now made store.new result }
 {
@@ -68,15 +68,15 @@ pub fn brought(store: &mut Store, others: &[TypeEntry], made: Made) -> Option<Ma
 }
 
 // The weight of a type in hand, or 8,193 where it is more.
-fn weight_of(store: &Store, made: Made) -> usize
+fn weight_of(store: &Store, made: Root) -> usize
     ensures { SaysWeight store.now.entries.now made.used made.entry 8193 result }
 {
     let entries = &*store.entries;
-    weight_within(entries, made.used, made.entry, TYPES + 1)
+    weight_within(entries, made, TYPES + 1)
 }
 
 // Keeps a type in hand as that of the next expression; false where the load is then over 8,192.
-pub fn keep(store: &mut Store, made: Made) -> bool
+pub fn keep(store: &mut Store, made: Root) -> bool
     ensures lent { store.new.entries.ghost_name ≡ store.old.entries.ghost_name }
     ensures kept { KeepsType store.old made store.new result }
 {

@@ -10,11 +10,10 @@ use crate::first::First;
 use crate::making::{infix_made, prefix_made};
 use crate::rules::rule_of;
 use crate::store::{Store, keep, united};
-use building::unions::Made;
 use parser::symbols::{Operator, Prefix};
 use parser::tree::{OperatorEntry, WalkFrame};
 use stack::Stack;
-use types::entries::TypeEntry;
+use types::entries::{Root, TypeEntry};
 
 // The stacks: what is still to be done, and the finished operands.
 #[derive(Drop)]
@@ -50,7 +49,7 @@ fn take(operators: &mut Stack<OperatorEntry>) -> Operand
 }
 
 // An expression has ended, with its type in hand, or with none where there is no room for it.
-pub fn ended(w: &mut Walk, store: &mut Store, place: usize, made: Option<Made>)
+pub fn ended(w: &mut Walk, store: &mut Store, place: usize, made: Option<Root>)
     ensures lent { store.new.entries.ghost_name ≡ store.old.entries.ghost_name }
     ensures ends { Ends w.old store.old place made w.new store.new }
 {
