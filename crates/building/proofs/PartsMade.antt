@@ -18,7 +18,7 @@ use Rattle.building.specs.Forms.{InForm, form_any, form_pair, form_list, form_un
 use Rattle.building.specs.HeadsAndTails.{OwnPart, of_any, head_of_pair, tail_of_pair, head_of_list, tail_of_list, OwnParts, parts_none, parts_more, parts_without, PartOf, part_own, part_union}
 use Rattle.building.specs.Laws.{PartOrLack, PartTold}
 use Rattle.building.specs.Entries.{Flat, flat_any, flat_one, flat_members, Open, Opened, HasNoRoom, AddsAll, Closes, SaysPartAny, SaysAnyPart, AddsPart, AddsParts}
-use Rattle.building.specs.Made.{Kept, PartHeld, PartOrNone, GivesPart, PartAnswer, MakesPart}
+use Rattle.building.specs.Made.{Kept, PartHeld, GivesPart, PartAnswer, MakesPart}
 use Rattle.building.proofs.OneUnion.{brings_one, own_one, own_parts_one, no_own, any_no_kind, union_no_kind}
 use Rattle.building.proofs.InOneForm.{front_or_end, flat_of, flat_brings, union_kinds, first_form, other_forms, members_forms}
 use Rattle.building.proofs.Same.{known, run_from}

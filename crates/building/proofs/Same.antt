@@ -1,7 +1,7 @@
 -- When two entries hold the same type. Assumes nothing.
 use Rattle.std.proofs.Common.{◌≡◌, ℕ, zero, suc, ◌+◌, ◌-◌, ◌<◌, ◌≤◌, Bool, true, false, ◌⊎◌, List, length, Decides, sym, refl, ap, ◌∙◌, subst, ap₂, inl, inr, ⊎_elim, add-zero, arith}
 use Rattle.std.proofs.lemmas.Bool.{both_ways}
-use Rattle.types.specs.Values.{Decimal, Text}
+use Rattle.types.specs.Values.{Text}
 use Rattle.types.specs.declared.entries.TypeEntry.{TypeEntry}
 use Rattle.types.specs.declared.entries.TypeEntry.TheVariants.{Unused, Any, Number, NumberLiteral, String, StringLiteral, Boolean, True, False, Undefined, Null, Function, Pair, List as ListOf, Union}
 use Rattle.types.specs.Types.{Ty, Types, any, number, number_literal, string, string_literal, boolean, true_literal, false_literal, undefined, null, function, pair, list, union, no_types, ◌and◌}

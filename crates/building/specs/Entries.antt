@@ -1,5 +1,5 @@
 -- What the inner functions say of entries. No public contract cites it. Assumes nothing.
-use Rattle.std.specs.Prelude.{◌≡◌, ℕ, suc, ◌+◌, ◌-◌, ◌^◌, ◌<◌, ◌≤◌, min, Bool, true, false, List, length, Some, None, Decides, Option, ◌≢◌, slice_set}
+use Rattle.std.specs.Prelude.{◌≡◌, ℕ, suc, ◌+◌, ◌-◌, ◌^◌, ◌<◌, ◌≤◌, min, Bool, false, List, length, Some, None, Decides, Option, ◌≢◌}
 use Rattle.types.specs.declared.entries.TypeEntry.{TypeEntry}
 use Rattle.types.specs.declared.entries.TypeEntry.TheVariants.{Unused, Any, Number, NumberLiteral, String, StringLiteral, CodeUnit, Boolean, True, False, Undefined, Null, Function, Pair, List as ListOf, Union}
 use Rattle.types.specs.Types.{Ty, Types, any, union, no_types, ◌and◌, count}

@@ -44,6 +44,7 @@ fn place_of(types: &[TypeEntry], first: usize, count: usize, rank: usize) -> usi
     requires { first + count ≤ length types.now }
     ensures { Place types.now first count rank result }
 {
+    // By an index: with `position` the proof does not learn what its closure says of each member.
     for place in 0..count {
         let i = first + place;
         if rank_of_entry(types[i]) > rank {

@@ -30,6 +30,7 @@ pub fn list_of(types: &mut [TypeEntry], used: usize, a: TypeEntry) -> Option<Roo
     if !run_below(used, 1, types.len()) {
         return None;
     }
+    // By an index: `get_mut` says nothing of what the table ends as.
     types[used] = a;
     Some(Root {
         entry: TypeEntry::List { element: used },

@@ -11,7 +11,11 @@ use Rattle.tables.specs.declared.Outcome.{Outcome}
 abbrev pub full : Sizes
 full = record { of_tree = 4096; of_operators = 4096; of_frames = 4096; of_types = 8192 }
 
--- the answer is the lawful one, and the findings list and the types are those that a checked sheet leaves
-pub record Answered (sheet : List ℕ) (o : Outcome) (listed : List Finding) (es : List TypeEntry) : Type 0 where
-  pub lawful : AnswersTo full library sheet o.answer
-  pub left : Left full library sheet listed es o.checked
+-- over tables of some sizes, the answer is the lawful one, and the findings list and the types are those that a checked
+-- sheet leaves
+pub record AnsweredOver (s : Sizes) (sheet : List ℕ) (o : Outcome) (listed : List Finding) (es : List TypeEntry) : Type 0 where
+  pub lawful : AnswersTo s library sheet o.answer
+  pub left : Left s library sheet listed es o.checked
+
+abbrev pub Answered : List ℕ → Outcome → List Finding → List TypeEntry → Type 0
+Answered = AnsweredOver full

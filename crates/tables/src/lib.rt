@@ -1,7 +1,8 @@
 // The tables that a check is lent, of the sizes that it asks for: made once, and used for sheet after sheet.
 #![tactic(auto)]
 
-ghost use Rattle.std.specs.Prelude.{◌≡◌, vec_len};
+ghost use Rattle.std.specs.Prelude.{◌≡◌, length, vec_len};
+ghost use Rattle.tables.specs.Answered.{AnsweredOver};
 
 use checker::calls::{Answer, Call};
 use checker::finding::Finding;
@@ -20,6 +21,36 @@ use types::entries::TypeEntry;
 pub struct Outcome {
     pub answer: Answer,
     pub checked: Option<Checked>,
+}
+
+// The same over tables of any sizes. It takes slices, since a proof loses sight of a `Vec` that is lent inside a struct.
+fn check_over(
+    sheet: &[u8],
+    tree: &mut [TreeEntry],
+    operators: &mut [OperatorEntry],
+    frames: &mut [WalkFrame],
+    types: &mut [TypeEntry],
+    findings: &mut [Finding],
+) -> Outcome
+    ensures { AnsweredOver (record { of_tree = length tree.old; of_operators = length operators.old; of_frames = length frames.old; of_types = length types.old }) sheet.now result findings.new types.new }
+{
+    let mut said = [Answer::Blank];
+    let mut lent = tables::Tables {
+        operators,
+        frames,
+        types,
+    };
+    let checked = run(
+        &Library,
+        &Empty,
+        &[Call::Check { sheet }],
+        &mut said,
+        tree,
+        &mut lent,
+        findings,
+    );
+    let [answer] = said;
+    Outcome { answer, checked }
 }
 
 #[derive(Drop)]
@@ -51,23 +82,14 @@ impl Tables {
     pub fn check(&mut self, sheet: &[u8], findings: &mut [Finding]) -> Outcome
         ensures { Answered sheet.now result findings.new self.new.types.items }
     {
-        let mut said = [Answer::Blank];
-        let mut lent = tables::Tables {
-            operators: &mut self.operators,
-            frames: &mut self.frames,
-            types: &mut self.types,
-        };
-        let checked = run(
-            &Library,
-            &Empty,
-            &[Call::Check { sheet }],
-            &mut said,
+        check_over(
+            sheet,
             &mut self.tree,
-            &mut lent,
+            &mut self.operators,
+            &mut self.frames,
+            &mut self.types,
             findings,
-        );
-        let [answer] = said;
-        Outcome { answer, checked }
+        )
     }
 
     // The types of the sheet that was checked last.

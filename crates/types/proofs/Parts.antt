@@ -3,7 +3,7 @@ use Rattle.std.proofs.Common.{◌≡◌, ℕ, suc, ◌+◌, ◌-◌, ◌<◌, �
 use mathlib.Core.Bool.{Bool-set}
 use mathlib.Core.HLevel.{is_prop→PathP}
 use Rattle.std.proofs.lemmas.List.{get_or_default, same_lists, get_or-take, get_or-drop, length-take}
-use Rattle.std.proofs.lemmas.Bool.{both_ways, cases_eq, or_cases}
+use Rattle.std.proofs.lemmas.Bool.{both_ways, cases_eq}
 use Rattle.types.specs.declared.entries.TypeEntry.{TypeEntry}
 use Rattle.types.specs.contracts.entries.TypeEntryPartialEq.TheImpl.{eq-value}
 use Rattle.types.specs.declared.entries.TypeEntry.TheVariants.{Unused, CodeUnit, NumberLiteral, StringLiteral, Function, Pair, List as ListOf, Union}
@@ -17,9 +17,9 @@ use Rattle.types.specs.declared.entries.Root.{Root}
 use Rattle.types.specs.Roots.{root_at}
 use Rattle.types.specs.Inner.{SaysSomeMeet, SaysMeetByParts}
 use Rattle.types.specs.Table.{entry_at, UnitsAt, Is, is_any, is_number, is_number_literal, is_string, is_string_literal, is_boolean, is_true, is_false, is_undefined, is_null, is_function, is_pair, is_list, is_union, Run, run_end, run_more, SaysMeet, SaysSame}
-use Rattle.types.specs.Kinds.{OfKind, number_kind, number_literal_kind, string_kind, string_literal_kind, boolean_kind, true_kind, false_kind, undefined_kind, null_kind, function_kind, pair_kind, list_kind, entry_kind, ◌isKind◌, Class, numbers, strings, trues, falses, undefineds, nulls, functions, pairs, part, verdict, Says}
+use Rattle.types.specs.Kinds.{OfKind, number_kind, number_literal_kind, string_kind, string_literal_kind, boolean_kind, true_kind, false_kind, undefined_kind, null_kind, function_kind, pair_kind, list_kind, entry_kind, part, verdict, Says}
 use Rattle.types.proofs.Inhabited.{inhabited}
-use Rattle.types.proofs.Meaning.{swapped, of_kind, parted, number_partner, same_number, same_string, same_count}
+use Rattle.types.proofs.Meaning.{swapped, parted, number_partner, same_number, same_string, same_count}
 
 -- an answer by what is so of the types
 says_yes : {es : List TypeEntry} {n m : ℕ} {a b : TypeEntry} → ((s t : Ty) → Is es n a s → Is es m b t → Meet s t) → SaysMeet es n a m b true
@@ -251,43 +251,6 @@ lengths_apart {es} {i} {j} {f} {m} {g} {n} is js neg ne = says_no neg (λ s t hs
 -- what an entry is, by the kind of the type that it holds
 number_entry : {es : List TypeEntry} {n : ℕ} {e : TypeEntry} {s : Ty} → OfKind s kinds.NumberLiteral → Is es n e s → (digits : ℕ) × (exponent : ℤ) × (e ≡ NumberLiteral digits exponent)
 number_entry number_literal_kind (is_number_literal p q) = (_, _, refl)
-
-string_entry : {es : List TypeEntry} {n : ℕ} {e : TypeEntry} {s : Ty} → OfKind s kinds.StringLiteral → Is es n e s → (first size : ℕ) × (e ≡ StringLiteral first size)
-string_entry string_literal_kind (is_string_literal p q u) = (_, _, refl)
-
-function_entry : {es : List TypeEntry} {n : ℕ} {e : TypeEntry} {s : Ty} → OfKind s kinds.Function → Is es n e s → (first size : ℕ) × (e ≡ Function first size)
-function_entry function_kind (is_function p q u) = (_, _, refl)
-
-pair_entry : {es : List TypeEntry} {n : ℕ} {e : TypeEntry} {s : Ty} → OfKind s kinds.Pair → Is es n e s → (head tail : ℕ) × (e ≡ Pair head tail)
-pair_entry pair_kind (is_pair p q x y) = (_, _, refl)
-
-list_entry : {es : List TypeEntry} {n : ℕ} {e : TypeEntry} {s : Ty} → OfKind s kinds.List → Is es n e s → (element : ℕ) × (e ≡ ListOf element)
-list_entry list_kind (is_list p x) = (_, refl)
-
--- a type that is none of those with parts does not meet another one by parts
-pub no_parts : {es : List TypeEntry} {i j : ℕ} {a b : TypeEntry} {k : Kind} (l : Kind)
-    → entry_kind a ≡ Some k → verdict k l ≡ verdicts.ByParts
-    → ((digits : ℕ) (exponent : ℤ) → a ≡ NumberLiteral digits exponent → ⊥)
-    → ((first size : ℕ) → a ≡ StringLiteral first size → ⊥)
-    → ((first size : ℕ) → a ≡ Function first size → ⊥)
-    → ((head tail : ℕ) → a ≡ Pair head tail → ⊥)
-    → ((element : ℕ) → a ≡ ListOf element → ⊥)
-    → SaysMeet es i a j b false
-no_parts {es} {i} {a} {k} l ki v n s f p q = free (λ le le' x y hx hy. let c = parted k l (sym v) in none c.0 c.1 (of_entry ki hx) hx)
-  where
-    none : {x : Ty} (c : Class) → part c k ≡ true → OfKind x k → Is es i a x → ⊥
-    none numbers t o h = let e = number_entry (of_kind kinds.NumberLiteral t o) h in n e.0 e.1 e.2
-    none strings t o h = let e = string_entry (of_kind kinds.StringLiteral t o) h in s e.0 e.1 e.2
-    none trues t o h = both_ways false refl t
-    none falses t o h = both_ways false refl t
-    none undefineds t o h = both_ways false refl t
-    none nulls t o h = both_ways false refl t
-    none functions t o h = let e = function_entry (of_kind kinds.Function t o) h in f e.0 e.1 e.2
-    none pairs t o h =
-        ⊎_elim
-        (λ t. let e = pair_entry (of_kind kinds.Pair t o) h in p e.0 e.1 e.2)
-        (λ t. let e = list_entry (of_kind kinds.List t o) h in q e.0 e.1)
-        (or_cases (k isKind kinds.Pair) (k isKind kinds.List) t)
 
 -- a number literal meets a number literal only by parts
 pub no_number : {es : List TypeEntry} {i j m : ℕ} {x : ℤ} {a b : TypeEntry} {k l : Kind} → entry_kind a ≡ Some k → entry_kind b ≡ Some l → verdict k l ≡ verdicts.ByParts → a ≡ NumberLiteral m x → ((digits : ℕ) (exponent : ℤ) → b ≡ NumberLiteral digits exponent → ⊥) → SaysMeet es i a j b false

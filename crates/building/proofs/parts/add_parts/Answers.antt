@@ -1,5 +1,5 @@
 -- `add_parts`: each way out of it by one lemma of `PartsMade`. Assumes nothing.
-use Rattle.std.proofs.Common.{◌<◌, ◌≤◌, sym, subst, ap, ◌∙◌, arith}
+use Rattle.std.proofs.Common.{◌<◌, sym, subst, ap, ◌∙◌, arith}
 use Rattle.building.specs.Entries.{AddsParts, Within}
 use Rattle.building.proofs.PartsMade.{Parting, none_parted, more_parted, parts_none_fit, all_parted}
 use Rattle.building.proofs.parts.add_parts.Goals as goal

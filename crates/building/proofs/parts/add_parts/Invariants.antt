@@ -1,4 +1,4 @@
-use Rattle.std.proofs.Common.{◌≡◌, ◌≤◌}
+use Rattle.std.proofs.Common.{◌≡◌}
 use Rattle.building.proofs.PartsMade.{Parting}
 use Rattle.building.proofs.parts.add_parts.Given as goal
 

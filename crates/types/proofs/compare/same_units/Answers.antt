@@ -1,4 +1,3 @@
-use Rattle.std.proofs.Common.{rules}
 use Rattle.std.proofs.lemmas.Slice.Eq.{slice_eq-Decides}
 use Rattle.types.proofs.Parts.{entries_Decides, units_alike}
 use Rattle.types.proofs.compare.same_units.Goals as goal

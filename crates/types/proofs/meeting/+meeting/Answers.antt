@@ -1,7 +1,7 @@
 -- `meets` answers whether two types meet: each way out of it by one lemma of `Parts`. Assumes nothing.
 use Rattle.std.proofs.Common.{◌≡◌, Decides, sym, ◌∙◌, arith, rules}
 use Rattle.std.proofs.lemmas.Bool.Decides.{Decides-eqb}
-use Rattle.types.proofs.Parts.{flip, union_broken, union_meets, some_met, none_met, any_meets, kinds_meet, kinds_never, by_parts, first_broken, second_broken, at_both, at_first, numbers_meet, no_number, no_parts, functions_meet, strings_meet, lengths_apart, pair_low, list_low, heads_apart, heads_meet, element_apart, element_meets}
+use Rattle.types.proofs.Parts.{flip, union_meets, some_met, none_met, any_meets, kinds_meet, kinds_never, by_parts, first_broken, second_broken, at_both, at_first, numbers_meet, no_number, functions_meet, strings_meet, lengths_apart, pair_low, list_low, heads_apart, heads_meet, element_apart, element_meets}
 use Rattle.types.proofs.meeting.+meeting.Goals as goal
 
 pub meets-returns-in-Some : goal.meets-returns-in-Some
