@@ -46,7 +46,7 @@ fn is_part(types: &[TypeEntry], i: usize) -> bool
 fn is_head(types: &[TypeEntry], i: usize) -> bool
     ensures { Decides result (Orderly i (entry_at types.now i) × NoUnit (entry_at types.now i)) }
 {
-    is_part(types, i) && !matches!(types.get(i), Some(TypeEntry::CodeUnit(_)))
+    types.get(i).is_some_and(|e| is_orderly(i, *e) && !matches!(e, TypeEntry::CodeUnit(_)))
 }
 
 // Where the type of an expression stands, by the expression's number.
