@@ -42,6 +42,7 @@ pub struct Operand {
     pub entry: TypeEntry,
 }
 
+// What is taken where no operand is on top. No tree in order comes to that, so no caller is given an Option to look into.
 const NO_OPERAND: Operand = Operand {
     place: 0,
     entry: TypeEntry::Any,

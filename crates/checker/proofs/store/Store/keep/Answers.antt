@@ -7,5 +7,5 @@ returns c =
     record {
       lent = refl;
       kept = λ ts t tabled h.
-          kept_type c.args.self.now c.args.made t tabled h _ (c.weight_of-weight.ensures (omega (arith, h.within, tabled.size)) t h.holds) _ c.if-weight-load.false refl refl refl refl;
+          kept_type c.args.self.now c.args.made t tabled h _ (c.weight_of.ensures (omega (arith, h.within, tabled.size)) t h.holds) _ (omega arith) refl refl refl (omega arith);
     }
