@@ -9,7 +9,7 @@ use Rattle.checker.specs.Conditions.{Compare, Comparable, two_numbers, two_strin
 use Rattle.checker.specs.Rules as rules
 use Rattle.checker.specs.Rules.{Numeric, Textual, number_or_string}
 use Rattle.checker.specs.Entries.{SaysNumberOrString, SaysBothMeet, SaysCompare, SaysNumeric, SaysTextual}
-use Rattle.checker.proofs.Orderly.{says_yes, says_no, refuted}
+use Rattle.checker.proofs.Orderly.{says_yes, refuted}
 
 -- a number or a string
 number_fits : {s : Ty} → Meet s number → Meet s number_or_string

@@ -2,7 +2,7 @@ use Rattle.std.proofs.Common.{◌∙◌}
 use Rattle.types.specs.Table.{is_number, is_string, is_boolean}
 use Rattle.checker.proofs.Logging.{asks_then, asks_as}
 use Rattle.checker.proofs.Ruling.{as_form}
-use Rattle.checker.proofs.asking.ask_infix.Goals as goal
+use Rattle.checker.proofs.asking.First+Finding.ask_infix.Goals as goal
 
 pub returns-in-Arithmetic : goal.returns-in-Arithmetic
 returns-in-Arithmetic c = record {

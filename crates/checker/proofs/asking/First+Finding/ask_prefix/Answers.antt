@@ -2,7 +2,7 @@ use Rattle.std.proofs.Common.{refl}
 use Rattle.types.specs.Table.{is_number, is_boolean}
 use Rattle.checker.proofs.Logging.{asks_none, asks_as}
 use Rattle.checker.proofs.Ruling.{as_prefix}
-use Rattle.checker.proofs.asking.ask_prefix.Goals as goal
+use Rattle.checker.proofs.asking.First+Finding.ask_prefix.Goals as goal
 
 pub returns-in-Not : goal.returns-in-Not
 returns-in-Not c = record {

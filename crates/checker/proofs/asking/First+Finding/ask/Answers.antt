@@ -1,6 +1,6 @@
 use Rattle.std.proofs.Common.{refl}
 use Rattle.checker.proofs.Logging.{tells_met, tells_unmet}
-use Rattle.checker.proofs.asking.ask.Goals as goal
+use Rattle.checker.proofs.asking.First+Finding.ask.Goals as goal
 
 pub returns-then-not-met : goal.returns-then-not-met
 returns-then-not-met c = record {
