@@ -37,6 +37,8 @@ impl<'a> Store<'a> {
         self.entries.len().min(TYPES.saturating_sub(self.count))
     }
 
+    // Here and in the next two the part below the limit is lent to one call: a closure for that call would save no line.
+
     // The union of two types.
     pub fn united(&mut self, a: TypeEntry, b: TypeEntry) -> Result<Made, TooHeavy>
         ensures lent { self.new.entries.ghost_name ≡ self.old.entries.ghost_name }
