@@ -11,7 +11,6 @@ pub mod Typable
 pub mod Notes
 pub mod Unmet
 pub mod Visiting
-pub mod Cutting
 pub mod Stepping
 pub mod Ordered
 pub mod Starting

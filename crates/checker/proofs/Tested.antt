@@ -9,7 +9,7 @@ use Rattle.checker.specs.Conditions.{Compare, Comparable, two_numbers, two_strin
 use Rattle.checker.specs.Rules as rules
 use Rattle.checker.specs.Rules.{Numeric, Textual, number_or_string}
 use Rattle.checker.specs.Entries.{SaysNumberOrString, SaysBothMeet, SaysCompare, SaysNumeric, SaysTextual}
-use Rattle.checker.proofs.Orderly.{says_yes, says_no, refuted}
+use Rattle.checker.proofs.Orderly.{says_yes, refuted}
 
 -- a number or a string
 number_fits : {s : Ty} → Meet s number → Meet s number_or_string
@@ -71,13 +71,6 @@ module _ {e : TypeEntry} where
       go : {s : Ty} → Is es n (NumberLiteral digits exponent) s → Numeric s
       go (is_number_literal p q) = rules.is_number_literal
 
-  pub not_numeric : (e ≡ Number → ⊥) → ((digits : ℕ) (exponent : ℤ) → e ≡ NumberLiteral digits exponent → ⊥) → SaysNumeric e false
-  not_numeric none no-literal es n s x = says_no (λ p. go p refl x)
-    where
-      go : {a : TypeEntry} {s : Ty} → Numeric s → e ≡ a → Is es n a s → ⊥
-      go rules.is_number is is_number = none is
-      go rules.is_number_literal is (is_number_literal p q) = no-literal _ _ is
-
   pub string_textual : e ≡ String → SaysTextual e true
   string_textual is es n s x = says_yes (go (known is x))
     where
@@ -89,10 +82,3 @@ module _ {e : TypeEntry} where
     where
       go : {s : Ty} → Is es n (StringLiteral first size) s → Textual s
       go (is_string_literal low p q) = rules.is_string_literal
-
-  pub not_textual : (e ≡ String → ⊥) → ((first size : ℕ) → e ≡ StringLiteral first size → ⊥) → SaysTextual e false
-  not_textual none no-literal es n s x = says_no (λ p. go p refl x)
-    where
-      go : {a : TypeEntry} {s : Ty} → Textual s → e ≡ a → Is es n a s → ⊥
-      go rules.is_string is is_string = none is
-      go rules.is_string_literal is (is_string_literal low p q) = no-literal _ _ is

@@ -115,9 +115,8 @@ abbrev pub OnwardAny : WalkFrame → State → State → Result (Unit {0}) TooHe
 OnwardAny f w v r = (sheet : List ℕ) (Γ : Meaning) (table : List TreeEntry) → Onward sheet Γ table f w v r
 
 -- the token l at p has been visited, where the tree has it as the expression at an index
-pub record VisitsToken (sheet : List ℕ) (Γ : Meaning) (l : Leaf) (p n : ℕ) (w v : State) (r : Result (Unit {0}) TooHeavy) : Type 0 where
-  pub lent : Lent w v
-  pub visits : (table : List TreeEntry) (i : ℕ) → tree_at table i ≡ entry.Leaf l p n → Onward sheet Γ table (Expression i) w v r
+abbrev pub VisitsToken : List ℕ → Meaning → Leaf → ℕ → ℕ → State → State → Result (Unit {0}) TooHeavy → Type 0
+VisitsToken sheet Γ l p n w v r = (table : List TreeEntry) (i : ℕ) → tree_at table i ≡ entry.Leaf l p n → Onward sheet Γ table (Expression i) w v r
 
 -- all is noted, or its load is too high
 abbrev pub Told : List Note → State → Result (Unit {0}) TooHeavy → Type 0

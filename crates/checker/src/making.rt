@@ -47,7 +47,7 @@ impl<'a> Store<'a> {
         }
     }
 
-    // The type of a number as it is written.
+    // The type of a number as it is written; where none is, the answer is free.
     fn number_made(&self, text: &[u8]) -> Result<Root, TooHeavy>
         ensures { MakesNumber self.now text.now result }
     {
@@ -55,7 +55,7 @@ impl<'a> Store<'a> {
         Ok(self.plain(entry))
     }
 
-    // The type of a token that is no name.
+    // The type of a token that is no name; that of a name is free.
     pub fn literal_made(&mut self, leaf: Leaf, text: &[u8]) -> Result<Root, TooHeavy>
         ensures lent { self.new.entries.ghost_name ≡ self.old.entries.ghost_name }
         ensures makes { MakesLiteral self.old leaf text.now self.new result }

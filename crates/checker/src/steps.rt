@@ -8,7 +8,7 @@ use crate::walk::{Source, Walk};
 use parser::tree::WalkFrame;
 use registers::register::Register;
 
-// No tree of 4,096 entries takes more steps.
+// No tree of 4,096 entries takes more steps. They are counted, since over entries out of order a walk need not end.
 const STEPS: usize = 8192;
 
 impl<'a> Walk<'a> {

@@ -32,11 +32,10 @@ impl<'a> Store<'a> {
         ensures within { result ≤ length self.now.entries.now }
         ensures limit { self.now.count ≤ 8192 → 8192 ≤ length self.now.entries.now → result ≡ 8192 - self.now.count }
     {
-        if self.count > TYPES || self.entries.len() < TYPES {
-            return 0;
-        }
-        TYPES - self.count
+        self.entries.len().min(TYPES.saturating_sub(self.count))
     }
+
+    // Here and in the next two the part below the limit is lent to one call: a closure for that call would save no line.
 
     // The union of two types.
     pub fn united(&mut self, a: TypeEntry, b: TypeEntry) -> Result<Root, TooHeavy>
@@ -77,15 +76,14 @@ impl<'a> Store<'a> {
         ensures lent { self.new.entries.ghost_name ≡ self.old.entries.ghost_name }
         ensures kept { KeepsType self.old made self.new result }
     {
-        let weight = self.weight_of(made);
-        let load = self.load;
+        let load = self.load.saturating_add(self.weight_of(made));
         let count = self.count;
-        if load > TYPES || weight > TYPES - load || count >= TYPES || self.entries.len() < TYPES {
+        if load > TYPES || count >= TYPES || self.entries.len() < TYPES {
             return Err(TooHeavy);
         }
         self.used = made.used;
         self.count = count + 1;
-        self.load = load + weight;
+        self.load = load;
         self.entries[TYPES - 1 - count] = made.entry;
         Ok(())
     }

@@ -7,17 +7,14 @@ ghost use Rattle.parser.specs.declared.tree.WalkFrame.TheVariants.{Expression, S
 ghost use Rattle.checker.specs.declared.finding.Finding.{Finding as AnyFinding};
 ghost use Rattle.checker.specs.declared.first.First.{First as AnyFirst};
 ghost use Rattle.checker.specs.declared.store.Store.{Store as AnyStore};
-ghost use Rattle.checker.specs.Askings.{AsksBound, SaysBound};
 ghost use Rattle.checker.specs.Standing.{Onward, VisitsToken, state};
 
-use crate::asking::ask;
-use crate::finding::{Finding, Kind};
+use crate::finding::Finding;
 use crate::first::First;
 use crate::store::{Store, TooHeavy};
 use crate::walk::{Source, Walk};
 use parser::symbols::Leaf;
 use parser::tree::{TreeEntry, WalkFrame};
-use registers::found::Told;
 use registers::register::Register;
 
 impl<'a, R> Source<'a, R> {
@@ -39,21 +36,6 @@ impl<'a, R> Source<'a, R> {
     }
 }
 
-// Whether a register told a binding.
-fn is_bound(found: Option<Told>) -> bool
-    ensures { SaysBound found result }
-{
-    found.is_some()
-}
-
-// Asks that a name is bound, by what a register told of it.
-fn ask_bound(findings: &mut First<Finding>, place: usize, found: Option<Told>)
-    ensures lent { findings.new.slots.ghost_name ≡ findings.old.slots.ghost_name }
-    ensures asked { AsksBound findings.old place found findings.new }
-{
-    ask(findings, is_bound(found), Kind::UnknownName, place);
-}
-
 impl<'a> Walk<'a> {
     // A name: asks the register for its binding.
     fn visit_name<R: Register>(
@@ -67,7 +49,7 @@ impl<'a> Walk<'a> {
         ensures { VisitsToken source.now.sheet.now (R.Register.meaning source.now.names.now) Name place len (state self.old findings.old store.old) (state self.new findings.new store.new) result }
     {
         let found = source.names.ask(source.part(place, len), &mut self.room);
-        ask_bound(findings, place, found);
+        findings.ask_bound(place, found);
         let made = store.found_made(found, &self.room)?;
         self.ended(store, place, made)
     }

@@ -4,7 +4,6 @@ ghost use Rattle.stack.specs.Items.{held, room};
 ghost use Rattle.checker.specs.Standing.{Ends, OnwardAny, Pushed, Takes, state};
 ghost use Rattle.parser.specs.declared.tree.WalkFrame.TheVariants.{Binary, Choice, Unary};
 
-use crate::asking::{ask_fits, ask_infix, ask_prefix};
 use crate::finding::Finding;
 use crate::first::First;
 use crate::rules::rule_of;
@@ -41,6 +40,7 @@ pub struct Operand {
     pub entry: TypeEntry,
 }
 
+// What is taken where no operand is on top. No tree in order comes to that, so no caller is given an Option to look into.
 const NO_OPERAND: Operand = Operand {
     place: 0,
     entry: TypeEntry::Any,
@@ -90,7 +90,7 @@ impl<'a> Walk<'a> {
         ensures { OnwardAny (Unary op place) (state self.old findings.old store.old) (state self.new findings.new store.new) result }
     {
         let v = take(&mut self.operators);
-        ask_prefix(findings, store, op, v);
+        findings.ask_prefix(store, op, v);
         let made = store.prefix_made(op);
         self.ended(store, place, made)
     }
@@ -107,7 +107,7 @@ impl<'a> Walk<'a> {
         let right = take(&mut self.operators);
         let left = take(&mut self.operators);
         let rule = rule_of(op, left.entry, right.entry);
-        ask_infix(findings, store, rule, left, right);
+        findings.ask_infix(store, rule, left, right);
         let made = store.infix_made(rule, right.entry)?;
         self.ended(store, left.place, made)
     }
@@ -123,7 +123,7 @@ impl<'a> Walk<'a> {
         let other = take(&mut self.operators);
         let then = take(&mut self.operators);
         let test = take(&mut self.operators);
-        ask_fits(findings, store, test, TypeEntry::Boolean);
+        findings.ask_fits(store, test, TypeEntry::Boolean);
         let made = store.united(then.entry, other.entry)?;
         self.ended(store, test.place, made)
     }

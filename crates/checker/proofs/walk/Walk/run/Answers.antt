@@ -4,9 +4,6 @@ use Rattle.checker.proofs.Walking.{failed}
 use Rattle.checker.proofs.Stepping.{as_frames, counted, popped, told_goes, told_last}
 use Rattle.checker.proofs.walk.Walk.run.Goals as goal
 
-pub loop-init : goal.loop-init
-loop-init g c = record { lent = (refl, refl); goes = λ whole sound h. h }
-
 pub returns-in_default : goal.returns-in_default
 returns-in_default g c = record {
   lent = c.loop.invariant.lent;

@@ -2,9 +2,6 @@ use Rattle.std.proofs.Common.{sym, refl}
 use Rattle.checker.proofs.Visiting.{visiting, unary_visit, binary_visit, choice_visit, no_visit, pushed_goes}
 use Rattle.checker.proofs.walk.Walk.visit_expression.Goals as goal
 
-pub returns-in-Leaf : goal.returns-in-Leaf
-returns-in-Leaf g c = c.visit_leaf.ensures.visits c.args.source.now.tree.now c.args.i (sym c.in-Leaf.ensures)
-
 pub returns-in-Unary : goal.returns-in-Unary
 returns-in-Unary g c = record {
   lent = (refl, refl);
