@@ -1,6 +1,7 @@
 // A line of the input, taken as a call.
+use anyhow::bail;
 use hex::FromHexError;
-use std::alloc::{AllocError, Global};
+use std::alloc::Global;
 use std::str::from_utf8;
 
 // A call to check a sheet, with a findings list of `room` entries.
@@ -26,20 +27,20 @@ fn operands_of(line: &[u8]) -> Option<(&str, usize)> {
 }
 
 // The bytes that are written in hexadecimal, or none where the text is not of this form. `-` stands for no bytes.
-fn bytes_of(heap: Global, text: &str) -> Result<Option<Vec<u8>>, AllocError> {
+fn bytes_of(heap: Global, text: &str) -> anyhow::Result<Option<Vec<u8>>> {
     if text.is_empty() {
         return Ok(None);
     }
     let digits = if text == "-" { "" } else { text };
     match hex::decode(heap, digits) {
         Ok(bytes) => Ok(Some(bytes)),
-        Err(FromHexError::OutOfMemory) => Err(AllocError),
+        Err(FromHexError::OutOfMemory) => bail!("out of memory"),
         Err(_) => Ok(None),
     }
 }
 
 // The call that a line writes, or none where it writes no call.
-pub fn request_of(heap: Global, line: &[u8]) -> Result<Option<Request>, AllocError> {
+pub fn request_of(heap: Global, line: &[u8]) -> anyhow::Result<Option<Request>> {
     let Some((text, room)) = operands_of(line) else {
         return Ok(None);
     };

@@ -77,25 +77,18 @@ fn in_order(checked: &Checked, types: &[TypeEntry]) -> bool
     parts_in_order(types, checked.used()) && heads_in_order(types, checked.expressions())
 }
 
-// A refusal that is about no place of the sheet.
-fn refused(reason: Reason) -> Refusal
-    ensures { result ≡ record { reason = reason; place = 0 } }
-{
-    Refusal { reason, place: 0 }
-}
-
 // The entry that holds the type of an expression, by the expression's number.
 pub fn type_of(checked: &Checked, types: &[TypeEntry], number: usize) -> Result<usize, Refusal>
     ensures { TypeTold types.now checked.now number result }
 {
     if types.len() < TYPES {
-        return Err(refused(Reason::ShortTable));
+        return Err(Reason::ShortTable.at(0));
     }
     if number >= checked.expressions() {
-        return Err(refused(Reason::NoExpression));
+        return Err(Reason::NoExpression.at(0));
     }
     if !in_order(checked, types) {
-        return Err(refused(Reason::Damaged));
+        return Err(Reason::Damaged.at(0));
     }
     Ok(head_of(number))
 }

@@ -47,10 +47,7 @@ fn read_and_check<F: Register, S: Register>(
     ensures lent { Lent tables.old tables.new }
 {
     let reading = read(sheet, tree, tables).map_err(Refused::Read)?;
-    check(
-        reading, sheet, tree, first, second, tables, findings,
-    )
-    .map_err(|(e, _)| Refused::Check(e))
+    check(reading, sheet, tree, first, second, tables, findings).map_err(|(e, _)| Refused::Check(e))
 }
 
 impl Call<'_> {
@@ -68,9 +65,7 @@ impl Call<'_> {
     {
         match self {
             Call::Check { sheet } => {
-                read_and_check(
-                    sheet, first, second, tree, tables, findings,
-                )
+                read_and_check(sheet, first, second, tree, tables, findings)
             }
         }
     }

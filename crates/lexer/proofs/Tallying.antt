@@ -5,7 +5,6 @@ use Rattle.std.specs.Bool.{then_some}
 use Rattle.std.specs.Option.{option_or}
 use Rattle.lexer.specs.Sizes.{Small}
 use Rattle.lexer.specs.Faults.{FirstFault}
-use Rattle.lexer.specs.declared.reasons.Reason.{Reason}
 use Rattle.lexer.specs.declared.reasons.Reason.TheVariants.{LineFeed, ManyTokens}
 use Rattle.lexer.specs.Reading.{Lexes, done, refused, token, Ending, finished, stopped, Given, Finished, Stopped}
 use Rattle.lexer.specs.declared.refusal.Refusal.{Refusal}

@@ -1,4 +1,4 @@
-use Rattle.std.proofs.Common.{◌≡◌, length, get_or, sym, subst, arith, rules}
+use Rattle.std.proofs.Common.{◌≡◌, length, sym, subst, arith, rules}
 use Rattle.registers.specs.Library.{library}
 use Rattle.checker.specs.declared.calls.Call.TheVariants.{Check}
 use Rattle.checker.specs.Runs.{Left}

@@ -4,15 +4,15 @@ use Rattle.checker.proofs.Checking.{refuted}
 use Rattle.checker.proofs.asked.type_of.Goals as goal
 
 pub returns-then-types-lt-TYPES : goal.returns-then-types-lt-TYPES
-returns-then-types-lt-TYPES c = rw c.refused.ensures (short_table c.if-types-lt-TYPES.true)
+returns-then-types-lt-TYPES c = rw c.at.ensures (short_table c.if-types-lt-TYPES.true)
 
 pub returns-then-number-expressions : goal.returns-then-number-expressions
 returns-then-number-expressions c =
-    rw c.refused-then-number-expressions.ensures (no_expression c.if-types-lt-TYPES.false (omega (arith, c.if-number-expressions.true, c.expressions.ensures)))
+    rw c.at-then-number-expressions.ensures (no_expression c.if-types-lt-TYPES.false (omega (arith, c.if-number-expressions.true, c.expressions.ensures)))
 
 pub returns-then-not-in_order : goal.returns-then-not-in_order
 returns-then-not-in_order c =
-    rw c.refused-then-not-in_order.ensures (
+    rw c.at-then-not-in_order.ensures (
     damaged c.if-types-lt-TYPES.false (omega (arith, c.if-number-expressions.false, c.expressions.ensures))
     (refuted _ c.in_order.ensures c.if-not-in_order.true)
     )
