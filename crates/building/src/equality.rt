@@ -11,6 +11,9 @@ use types::entries::{Root, TypeEntry};
 pub fn same(types: &[TypeEntry], a: Root, b: Root) -> bool
     ensures { SaysSameType types.now a.used a.entry b.used b.entry result }
 {
+    if a.used > types.len() || b.used > types.len() {
+        return false;
+    }
     same_parts(types, a, b).unwrap_or(false)
 }
 

@@ -18,13 +18,17 @@ fn sum_within(a: usize, b: usize, limit: usize) -> usize
 pub fn weight_within(types: &[TypeEntry], a: Root, limit: usize) -> usize
     ensures { SaysWeight types.now a.used a.entry limit result }
 {
+    if a.used > types.len() {
+        return 0;
+    }
     match parts_weigh(types, a, limit) {
         Some(parts) => sum_within(1, parts, limit),
         None => 0,
     }
 }
 
-// The weight of the parts of a type, or the limit. None where a part does not stand below the type.
+// The weight of the parts of a type; where it is over the limit, some number that is. None where a part does not stand
+// below the type.
 #[cycle(weights)]
 fn parts_weigh(types: &[TypeEntry], a: Root, limit: usize) -> Option<usize>
     ensures { SaysPartsWeigh types.now a.used a.entry limit result }
@@ -47,7 +51,8 @@ fn parts_weigh(types: &[TypeEntry], a: Root, limit: usize) -> Option<usize>
     })
 }
 
-// The weights of the types in a run of entries together, or the limit.
+// The weights of the types in a run of entries together, or the limit. A `for`, since a recursion through a closure gets no
+// proof.
 #[cycle(weights)]
 fn run_weighs(types: &[TypeEntry], run: Range<usize>, limit: usize) -> usize
     ensures { SaysRunWeighs types.now run.start run.end limit result }

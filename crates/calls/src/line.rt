@@ -34,7 +34,7 @@ fn bytes_of(heap: Global, text: &str) -> anyhow::Result<Option<Vec<u8>>> {
     let digits = if text == "-" { "" } else { text };
     match hex::decode(heap, digits) {
         Ok(bytes) => Ok(Some(bytes)),
-        Err(FromHexError::OutOfMemory) => bail!("out of memory"),
+        Err(FromHexError::OutOfMemory) => bail!("memory allocation failed"),
         Err(_) => Ok(None),
     }
 }

@@ -1,9 +1,10 @@
 // The type of an expression of a checked sheet.
-ghost use Rattle.std.specs.Prelude.{◌≡◌, ◌-◌, Decides};
+ghost use Rattle.std.specs.Prelude.{Decides};
 ghost use Rattle.types.specs.Table.{entry_at};
 ghost use Rattle.checker.specs.Orders.{HeadsInOrder, IsInOrder, NoUnit, Orderly, PartsInOrder, TypeTold};
 
 use crate::stage::Checked;
+use crate::store::head_of;
 use lexer::reasons::Reason;
 use lexer::refusal::Refusal;
 use parser::tables::TYPES;
@@ -47,13 +48,6 @@ fn is_head(types: &[TypeEntry], i: usize) -> bool
     ensures { Decides result (Orderly i (entry_at types.now i) × NoUnit (entry_at types.now i)) }
 {
     types.get(i).is_some_and(|e| is_orderly(i, *e) && !matches!(e, TypeEntry::CodeUnit(_)))
-}
-
-// Where the type of an expression stands, by the expression's number.
-fn head_of(number: usize) -> usize
-    ensures { result ≡ 8191 - number }
-{
-    (TYPES - 1).saturating_sub(number)
 }
 
 // Whether the entries of parts are in order.

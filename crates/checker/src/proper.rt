@@ -6,7 +6,7 @@ ghost use Rattle.checker.specs.Entries.{StatementEntry};
 use parser::tree::TreeEntry;
 
 // The entry at an index, which past the end of the table is blank.
-fn entry_at(tree: &[TreeEntry], i: usize) -> TreeEntry
+pub fn entry_at(tree: &[TreeEntry], i: usize) -> TreeEntry
     ensures { result ≡ tree_at tree.now i }
 {
     tree.get(i).copied().unwrap_or(TreeEntry::Blank)

@@ -11,7 +11,8 @@ use building::weights::weight_within;
 use parser::tables::TYPES;
 use types::entries::{Root, TypeEntry};
 
-// That the weights of the types of a sheet are over 8,192 together.
+// That the weights of the types of a sheet are over 8,192 together. It also stands where a token writes no type, which a tree
+// that reading left never has.
 #[derive(Clone, Copy)]
 pub struct TooHeavy;
 
@@ -24,6 +25,13 @@ pub struct Store<'a> {
     pub count: usize,
     // the weights of their types together
     pub load: usize,
+}
+
+// Where the type of an expression stands, by the expression's number.
+pub fn head_of(number: usize) -> usize
+    ensures { result ≡ 8191 - number }
+{
+    (TYPES - 1).saturating_sub(number)
 }
 
 impl<'a> Store<'a> {
@@ -84,7 +92,7 @@ impl<'a> Store<'a> {
         self.used = made.used;
         self.count = count + 1;
         self.load = load;
-        self.entries[TYPES - 1 - count] = made.entry;
+        self.entries[head_of(count)] = made.entry;
         Ok(())
     }
 }

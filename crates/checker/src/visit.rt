@@ -1,7 +1,6 @@
 // Visiting the entries of the tree.
 ghost use Rattle.std.specs.Prelude.{◌≡◌, ℕ, List, Ok, take, drop, ◌≢◌};
 ghost use Rattle.registers.specs.Meaning.{Meaning};
-ghost use Rattle.parser.specs.Table.{tree_at};
 ghost use Rattle.parser.specs.declared.symbols.Leaf.TheVariants.{Name};
 ghost use Rattle.parser.specs.declared.tree.WalkFrame.TheVariants.{Expression, Statements};
 ghost use Rattle.checker.specs.declared.finding.Finding.{Finding as AnyFinding};
@@ -11,6 +10,7 @@ ghost use Rattle.checker.specs.Standing.{Onward, VisitsToken, state};
 
 use crate::finding::Finding;
 use crate::first::First;
+use crate::proper::entry_at;
 use crate::store::{Store, TooHeavy};
 use crate::walk::{Source, Walk};
 use parser::symbols::Leaf;
@@ -18,13 +18,6 @@ use parser::tree::{TreeEntry, WalkFrame};
 use registers::register::Register;
 
 impl<'a, R> Source<'a, R> {
-    // The entry of the tree at an index; past the end it is blank.
-    fn entry(&self, i: usize) -> TreeEntry
-        ensures { result ≡ tree_at self.now.tree.now i }
-    {
-        self.tree.get(i).copied().unwrap_or(TreeEntry::Blank)
-    }
-
     // The bytes of the sheet from a place on, as far as there are any.
     fn part(&self, place: usize, len: usize) -> &[u8]
         ensures { result.now ≡ take len (drop place self.now.sheet.now) }
@@ -97,7 +90,7 @@ impl<'a> Walk<'a> {
     ) -> Result<(), TooHeavy>
         ensures { Onward source.now.sheet.now (R.Register.meaning source.now.names.now) source.now.tree.now (Expression i) (state self.old findings.old store.old) (state self.new findings.new store.new) result }
     {
-        match source.entry(i) {
+        match entry_at(source.tree, i) {
             TreeEntry::Leaf { leaf, place, len } => {
                 return self.visit_leaf(source, findings, store, leaf, place, len);
             }
@@ -136,7 +129,7 @@ impl<'a> Walk<'a> {
         let Some(i) = last else {
             return;
         };
-        if let TreeEntry::Statement { before, expression } = source.entry(i) {
+        if let TreeEntry::Statement { before, expression } = entry_at(source.tree, i) {
             self.wait(&[
                 WalkFrame::Expression(expression),
                 WalkFrame::Statements(before),

@@ -23,7 +23,7 @@ pub struct Outcome {
     pub checked: Option<Checked>,
 }
 
-// The same over tables of any sizes. It takes slices, since a proof loses sight of a `Vec` that is lent inside a struct.
+// Checks a sheet by the library over tables of any sizes. It takes slices, since a proof loses sight of a `Vec` that is lent inside a struct.
 fn check_over(
     sheet: &[u8],
     tree: &mut [TreeEntry],

@@ -12,6 +12,9 @@ use std::ops::Range;
 pub fn meets(types: &[TypeEntry], a: Root, b: Root) -> bool
     ensures { SaysMeet types.now a.used a.entry b.used b.entry result }
 {
+    if a.used > types.len() || b.used > types.len() {
+        return false;
+    }
     match (a.entry, b.entry) {
         (TypeEntry::Union { first, count }, _) => match a.run(first, count) {
             Some(members) => some_meets(types, members, b),
@@ -34,7 +37,8 @@ pub fn meets(types: &[TypeEntry], a: Root, b: Root) -> bool
     }
 }
 
-// Whether one of the types in a run of entries meets another type.
+// Whether one of the types in a run of entries meets another type. A `for`, since a recursion through a closure gets no
+// proof.
 #[cycle(meeting)]
 fn some_meets(types: &[TypeEntry], run: Range<usize>, other: Root) -> bool
     ensures { SaysSomeMeet types.now run.start run.end other.used other.entry result }

@@ -24,5 +24,5 @@ pub returns-in_default : goal.returns-in_default
 returns-in_default g c = record {
   lent = (refl, refl);
   onward = λ whole left sound h.
-      absurd (no_visit h.notes (visiting h.notes _ (sym c.entry.ensures) h.goes) c.in_default.not-Leaf c.in_default.not-Unary c.in_default.not-Binary c.in_default.not-Choice);
+      absurd (no_visit h.notes (visiting h.notes _ (sym c.entry_at.ensures) h.goes) c.in_default.not-Leaf c.in_default.not-Unary c.in_default.not-Binary c.in_default.not-Choice);
 }

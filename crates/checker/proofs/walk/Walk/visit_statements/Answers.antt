@@ -11,8 +11,8 @@ returns-in-Statement g c sheet Γ f s = record {
   onward = λ whole left sound h. pushed_goes _ _ _ _ _ h c.wait.ensures (statement_visit h.notes _ _ _ _ c.in-Some.is (sym c.in-Statement.ensures) h.goes);
 }
 
-pub returns-in_default-entry : goal.returns-in_default-entry
-returns-in_default-entry g c sheet Γ f s = record {
+pub returns-in_default-entry_at : goal.returns-in_default-entry_at
+returns-in_default-entry_at g c sheet Γ f s = record {
   lent = (refl, refl);
-  onward = λ whole left sound h. absurd (no_statement h.notes _ _ c.in-Some.is (λ b j q. c.in_default-entry.not-Statement b j (c.entry.ensures ∙ q)) h.goes);
+  onward = λ whole left sound h. absurd (no_statement h.notes _ _ c.in-Some.is (λ b j q. c.in_default-entry_at.not-Statement b j (c.entry_at.ensures ∙ q)) h.goes);
 }
