@@ -91,13 +91,6 @@ pub record Filling (es fs : List TypeEntry) (used : ℕ) (text : List ℕ) (at n
   pub room : used + n ≤ length fs
   pub filled : (us : List ℕ) → Decodes text us → SomeUnits fs used text at n us
 
-pub none_filled : (es : List TypeEntry) (used : ℕ) (text : List ℕ) → used ≤ length es → Filling es es used text 1 0
-none_filled es used text le = record {
-  same = λ j lt. refl;
-  room = omega arith;
-  filled = λ us d. record { stand = λ k lt. absurd (omega arith); left = closes_of text us d; some_of = omega arith };
-}
-
 module _ (es fs : List TypeEntry) (used : ℕ) (text s : List ℕ) (same-text-is : s ≡ text) (at n : ℕ) (f : Filling es fs used text at n) where
   on_text : (r : Option ℕ) (next : ℕ) → Next (get_or s 0 0) s at r next → Next (get_or text 0 0) text at r next
   on_text r next w = subst (λ l. Next (get_or l 0 0) l at r next) same-text-is w

@@ -35,9 +35,9 @@ pub fn string_of(types: &mut [TypeEntry], used: usize, text: &[u8]) -> Option<Ro
     if used > types.len() {
         return None;
     }
-    let mut decoder = Decoder { text, at: 1 };
+    let decoder = Decoder { text, at: 1 };
     let mut count = 0;
-    while let Some(unit) = decoder.next() {
+    for unit in decoder {
         let at = used + count;
         if at >= types.len() {
             return None;

@@ -9,6 +9,7 @@ pub mod Powers
 pub mod Amounts
 pub mod Tens
 pub mod Decodings
+pub mod UnitRuns
 pub mod ShortNumbers
 pub mod Verdicts
 pub mod Tallying
