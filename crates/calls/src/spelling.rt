@@ -1,11 +1,6 @@
 // Types as words, in prefix form.
 use std::fmt::Write;
-use types::entries::TypeEntry;
-
-// The entry at an index, and no type beyond the table's end.
-fn entry_at(types: &[TypeEntry], index: usize) -> TypeEntry {
-    types.get(index).copied().unwrap_or(TypeEntry::Unused)
-}
+use types::entries::{Root, TypeEntry};
 
 // The word of a type that is one word.
 fn word(entry: TypeEntry) -> &'static str {
@@ -84,7 +79,7 @@ pub fn spell(
         let Some(next) = pending.pop() else {
             return Ok(());
         };
-        let entry = entry_at(types, next);
+        let entry = Root::at(types, next).entry;
         spell_head(out, types, entry)?;
         push_parts(pending, entry)?;
     }

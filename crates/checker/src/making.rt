@@ -75,6 +75,7 @@ impl<'a> Store<'a> {
         ensures lent { self.new.entries.ghost_name ≡ self.old.entries.ghost_name }
         ensures makes { MakesFound self.old found room.now self.new result }
     {
+        // the first two arms apart: joined, the proof loses what stands in the answer
         match found {
             None => Ok(self.plain(TypeEntry::Any)),
             Some(Told::Scheme(_)) => Ok(self.plain(TypeEntry::Any)),

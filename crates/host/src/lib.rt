@@ -52,6 +52,7 @@ pub fn sheet_read(sheet: &[u8], out: &mut [u8]) -> u32
     if out.len() < 8 {
         return NO_ROOM;
     }
+    // lent here as in `sheet_check`: the kit has no clause for a struct of several loans that a method gives back
     let mut own = Arrays::new();
     let mut lent = Tables {
         operators: &mut own.operators,
