@@ -8,16 +8,16 @@ ghost use Rattle.host.specs.Answers.{ReadAnswers, CheckAnswers};
 
 mod layout;
 mod sheets;
-mod tables;
 
 use crate::layout::{put, put_findings};
 use crate::sheets::read_and_check;
-use crate::tables::Arrays;
 use checker::finding::{BLANK, Finding};
 use checker::stage::Checked;
 use lexer::refusal::Refusal;
 use parser::read;
 use parser::tables::Tables;
+use parser::tree::{OperatorEntry, TreeEntry, WalkFrame};
+use types::entries::TypeEntry;
 
 // The answer where `out` has no room for one.
 const NO_ROOM: u32 = 1;
@@ -52,14 +52,17 @@ pub fn sheet_read(sheet: &[u8], out: &mut [u8]) -> u32
     if out.len() < 8 {
         return NO_ROOM;
     }
-    // lent here as in `sheet_check`: the kit has no clause for a struct of several loans that a method gives back
-    let mut own = Arrays::new();
+    // made here and in `sheet_check`: a struct of four arrays that a function gives back is cleared twice
+    let mut tree = [TreeEntry::Blank; 4096];
+    let mut operators = [OperatorEntry::Blank; 4096];
+    let mut frames = [WalkFrame::Blank; 4096];
+    let mut types = [TypeEntry::Unused; 8192];
     let mut lent = Tables {
-        operators: &mut own.operators,
-        frames: &mut own.frames,
-        types: &mut own.types,
+        operators: &mut operators,
+        frames: &mut frames,
+        types: &mut types,
     };
-    match read(sheet, &mut own.tree, &mut lent) {
+    match read(sheet, &mut tree, &mut lent) {
         Ok(_) => 0,
         Err(e) => refused(out, e),
     }
@@ -75,14 +78,17 @@ pub fn sheet_check(sheet: &[u8], out: &mut [u8]) -> u32
     if out.len() < 8 {
         return NO_ROOM;
     }
-    let mut own = Arrays::new();
+    let mut tree = [TreeEntry::Blank; 4096];
+    let mut operators = [OperatorEntry::Blank; 4096];
+    let mut frames = [WalkFrame::Blank; 4096];
+    let mut types = [TypeEntry::Unused; 8192];
     let mut lent = Tables {
-        operators: &mut own.operators,
-        frames: &mut own.frames,
-        types: &mut own.types,
+        operators: &mut operators,
+        frames: &mut frames,
+        types: &mut types,
     };
     let mut findings = [BLANK; 4096];
-    match read_and_check(sheet, &mut own.tree, &mut lent, &mut findings) {
+    match read_and_check(sheet, &mut tree, &mut lent, &mut findings) {
         Ok(c) => checked(out, &c, &findings),
         Err(e) => refused(out, e),
     }
