@@ -3,7 +3,7 @@ use Rattle.building.proofs.Open.{is_member, no_member}
 use Rattle.building.proofs.members.has_member.Goals as goal
 
 pub returns-then-same : goal.returns-then-same
-returns-then-same c = is_member _ _ _ _ c.loop-i.i (omega (arith, c.requires)) (omega arith) c.loop-i-test.true c.if-same.ensures
+returns-then-same c = is_member _ _ _ c.loop-member.member-index c.loop-member-test.true c.if-same.ensures
 
 pub returns : goal.returns
-returns c = no_member _ _ _ _ (omega (arith, c.requires)) (λ k le lt. c.loop-i.invariant k le (omega arith))
+returns c = no_member _ _ _ (λ k lt. c.loop-member.invariant k (omega arith))

@@ -1,8 +1,7 @@
-use Rattle.std.proofs.Common.{ℕ, ◌<◌, ◌≤◌, false}
-use Rattle.types.specs.Table.{entry_at}
-use Rattle.building.specs.Made.{SaysSameType}
+use Rattle.std.proofs.Common.{ℕ, ◌<◌, false}
+use Rattle.building.proofs.Open.{MemberSame}
 use Rattle.building.proofs.members.has_member.Given as goal
 
 -- no member so far is the same type
-abbrev pub invariant-loop-i : goal.invariant-loop-i
-invariant-loop-i l = (j : ℕ) → l.first ≤ j → j < l.i → SaysSameType l.types l.first (entry_at l.types j) l.first l.fn.e false
+abbrev pub invariant-loop-member : goal.invariant-loop-member
+invariant-loop-member l = (j : ℕ) → j < l.member-index → MemberSame l.parts l.members l.e j false
