@@ -9,7 +9,7 @@ use Rattle.building.specs.Entries.{SaysIn}
 use Rattle.building.specs.Made.{SaysSameType, Hold, hold_none, hold_more}
 
 -- r says whether member k is the type e
-abbrev pub MemberSame : List TypeEntry → List TypeEntry → TypeEntry → ℕ → Bool → Type 0
+abbrev MemberSame : List TypeEntry → List TypeEntry → TypeEntry → ℕ → Bool → Type 0
 MemberSame ps hs e k r = SaysSameType ps (length ps) (entry_at hs k) (length ps) e r
 
 one_same : {ps : List TypeEntry} (hs : List TypeEntry) {e : TypeEntry} {t : Ty} {ms : Types} (k : ℕ) → k < length hs → Is ps (length ps) e t → Hold ps (length ps) hs ms → MemberSame ps hs e k true → In t ms
@@ -22,8 +22,17 @@ none_same [] h hold_none all p = elim p [ ]
 none_same (x ∷ hs) {t} h (hold_more y s) all in_first = both_ways false refl ((all 0 (omega arith) (omega arith) (omega arith) t t y h).1 refl)
 none_same (x ∷ hs) h (hold_more y s) all (in_other p) = none_same hs h s (λ k lt. all (suc k) (omega arith)) p
 
-pub is_member : (ps hs : List TypeEntry) (e : TypeEntry) (k : ℕ) → k < length hs → MemberSame ps hs e k true → SaysIn ps hs e true
+is_member : (ps hs : List TypeEntry) (e : TypeEntry) (k : ℕ) → k < length hs → MemberSame ps hs e k true → SaysIn ps hs e true
 is_member ps hs e k lt d t ms h s = (λ x. one_same hs k lt h s d, λ x. refl)
 
-pub no_member : (ps hs : List TypeEntry) (e : TypeEntry) → ((k : ℕ) → k < length hs → MemberSame ps hs e k false) → SaysIn ps hs e false
+no_member : (ps hs : List TypeEntry) (e : TypeEntry) → ((k : ℕ) → k < length hs → MemberSame ps hs e k false) → SaysIn ps hs e false
 no_member ps hs e all t ms h s = (λ x. absurd (both_ways false refl x), λ x. absurd (none_same hs h s all x))
+
+-- one of the members is the type e, or each of them is another
+abbrev pub Sought : List TypeEntry → List TypeEntry → TypeEntry → Bool → Type 0
+Sought ps hs e true = (k : ℕ) × (k < length hs) × MemberSame ps hs e k true
+Sought ps hs e false = (k : ℕ) → k < length hs → MemberSame ps hs e k false
+
+pub sought : (ps hs : List TypeEntry) (e : TypeEntry) (r : Bool) → Sought ps hs e r → SaysIn ps hs e r
+sought ps hs e true f = is_member ps hs e f.0 f.1 f.2
+sought ps hs e false f = no_member ps hs e f

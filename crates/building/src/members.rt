@@ -21,16 +21,10 @@ fn has_member(parts: &[TypeEntry], members: &[TypeEntry], e: TypeEntry) -> bool
     ensures { SaysIn parts.now members.now e result }
 {
     let used = parts.len();
-    for member in members {
-        let member = Root {
-            entry: *member,
-            used,
-        };
-        if same(parts, member, Root { entry: e, used }) {
-            return true;
-        }
-    }
-    false
+    let new = Root { entry: e, used };
+    members
+        .iter()
+        .any(|&entry| same(parts, Root { entry, used }, new))
 }
 
 // How many members stand before a new one of this rank.
