@@ -1,20 +1,24 @@
 -- Closed unions. Assumes nothing.
-use Rattle.std.proofs.Common.{◌≡◌, ℕ, ◌+◌, ◌<◌, ◌≤◌, ◌⊎◌, List, length, Some, None, sym, refl, subst, ⊎_elim, arith}
+use Rattle.std.proofs.Common.{◌≡◌, ℕ, ◌+◌, ◌<◌, ◌≤◌, ◌⊎◌, List, [], ◌∷◌, ◌++◌, length, take, drop, Some, None, Option, sym, refl, ap, ◌∙◌, subst, ⊎_elim, arith}
+use Rattle.std.specs.List.{slice_range}
+use Rattle.std.proofs.lemmas.List.{take-append-drop}
+use Rattle.std.proofs.lemmas.Grind.{common_steps}
 use Rattle.types.specs.declared.entries.TypeEntry.{TypeEntry}
 use Rattle.types.specs.declared.entries.TypeEntry.TheVariants.{Any, Union}
 use Rattle.types.specs.Types.{Ty, Types, any, number, number_literal, string, string_literal, boolean, true_literal, false_literal, undefined, null, function, pair, list, union, no_types, ◌and◌, count}
 use Rattle.types.specs.Kinds.{OfKind}
-use Rattle.types.specs.Table.{entry_at, Is, is_any, is_union, Run, run_end, run_more}
-use Rattle.types.proofs.Lower.{is_kept, higher}
+use Rattle.types.specs.Table.{entry_at, Is, is_any, is_union}
+use Rattle.types.proofs.Lower.{is_kept}
 use Rattle.types.specs.declared.entries.Root.{Root}
 use Rattle.building.specs.Unions.{◌then◌, Brings, brings_none, In, in_first, order_none, Members, UnionOf, union_any, union_one, union_more}
-use Rattle.building.specs.Forms.{form_any, form_none, form_more}
+use Rattle.building.specs.Forms.{AllInForm, form_any, form_none, form_more}
 use Rattle.building.specs.Weights.{weight, weights}
-use Rattle.building.specs.Entries.{Stored, stored_end, stored_more, Open, HasNoRoom, AddsAll, Flat, flat_any, flat_one, flat_members, Closes}
-use Rattle.building.specs.Made.{UnionMade, MakesUnion, Kept}
+use Rattle.building.specs.Entries.{Open, OpenIn, HasNoRoom, AddsAll, Flat, flat_any, flat_one, flat_members, Closes}
+use Rattle.building.specs.Made.{Kept, UnionMade, MakesUnion, Hold, hold_none, hold_more}
 use Rattle.building.proofs.OneUnion.{brings_one, any_no_kind}
 use Rattle.building.proofs.InOneForm.{front_or_end, the_only, flat_of, flat_brings, some_arrive, union_in_form}
-use Rattle.building.proofs.OneMore.{agree, in_front, at_end, stored_count}
+use Rattle.building.proofs.OneMore.{in_front, at_end, front}
+use Rattle.building.proofs.Held.{hold_count, hold_run, begins, begun, after_parts}
 use Rattle.building.proofs.AllMembers.{then_none}
 use Rattle.building.proofs.Filled.{filled_none, run_filled}
 
@@ -42,44 +46,44 @@ count_weights (t and ts) = let a = some_weight t in let b = count_weights ts in 
 two_bring : {s t : Ty} {xs ys : Types} → Flat s xs → Flat t ys → Brings (s and t and no_types) (xs then ys)
 two_bring {s} {t} {xs} {ys} f g = subst (λ zs. Brings (s and t and no_types) (xs then zs)) (then_none ys) (flat_brings f (flat_brings g brings_none))
 
--- the stored members are a run
-as_run : {es : List TypeEntry} {first i n : ℕ} {ms : Types} → first ≤ i → Stored es first i n ms → Run es i n ms
-as_run le stored_end = run_end
-as_run {i} le (stored_more x s) = run_more (higher i le x) (as_run (omega arith) s)
-
-first_stored : {es : List TypeEntry} {first i n : ℕ} {t : Ty} {ts : Types} → Stored es first i n (t and ts) → Is es first (entry_at es i) t
-first_stored (stored_more x s) = x
-
 -- closing
-pub closes_one : (es : List TypeEntry) (first n : ℕ) → first + n ≤ length es → n ≡ 1 → Closes es first n (record { entry = entry_at es first; used = first })
-closes_one es first n low one ts xs forms b some o = go o.members o.stored o.are_members
+pub closes_one : (ps hs : List TypeEntry) → length hs ≡ 1 → Closes ps hs (record { entry = entry_at hs 0; used = length ps })
+closes_one ps hs one ts xs rest forms b some o = go hs one o.members o.stored o.are_members
   where
-    go : (ms : Types) → Stored es first first n ms → Members xs ms → UnionMade es first ts (record { entry = entry_at es first; used = first })
-    go no_types s m = let e = stored_count s in absurd (omega arith)
-    go (t and no_types) s m = record { made = t; is_union = union_one b m; in_form = union_in_form forms (union_one b m); holds = first_stored s; more = omega arith; within = omega arith; light = let w = some_weight t in omega arith; filled = filled_none es first }
-    go (t and u and us) s m = let e = stored_count s in absurd (omega arith)
+    go : (hs : List TypeEntry) → length hs ≡ 1 → (ms : Types) → Hold ps (length ps) hs ms → Members xs ms → UnionMade (ps ++ (hs ++ rest)) (length ps) ts (record { entry = entry_at hs 0; used = length ps })
+    go (e ∷ []) one (t and no_types) (hold_more x h) m = record { made = t; is_union = union_one b m; in_form = union_in_form forms (union_one b m); holds = is_kept (begins ps (e ∷ rest)) x; more = omega arith; within = grind (arith, common_steps); light = let w = some_weight t in omega arith; filled = filled_none (ps ++ (e ∷ rest)) (length ps) }
+    go (e ∷ []) one (t and (u and us)) s m = let c = hold_count s in absurd (omega arith)
+    go (e ∷ []) one no_types s m = elim s [ ]
+    go (e ∷ (f ∷ hs)) one ms s m = absurd (omega arith)
+    go [] one ms s m = absurd (omega arith)
 
-pub closes_more : (es : List TypeEntry) (first n : ℕ) → first + n ≤ length es → (n ≡ 1 → ⊥) → Closes es first n (record { entry = Union first n; used = first + n })
-closes_more es first n low more ts xs forms b some o = go o.members o.stored o.are_members
+pub closes_more : (ps hs : List TypeEntry) → (length hs ≡ 1 → ⊥) → Closes ps hs (record { entry = Union (length ps) (length hs); used = length ps + length hs })
+closes_more ps hs more ts xs rest forms b some o = go o.members o.stored o.are_members
   where
-    go : (ms : Types) → Stored es first first n ms → Members xs ms → UnionMade es first ts (record { entry = Union first n; used = first + n })
+    es : List TypeEntry
+    es = ps ++ (hs ++ rest)
+
+    go : (ms : Types) → Hold ps (length ps) hs ms → Members xs ms → UnionMade es (length ps) ts (record { entry = Union (length ps) (length hs); used = length ps + length hs })
     go no_types s m = absurd (elim (m.all some.0 some.1) [ ])
-    go (t and no_types) s m = let e = stored_count s in absurd (more (omega arith))
+    go (t and no_types) s m = let e = hold_count s in absurd (more (omega arith))
     go (t and u and us) s m =
-        let e = stored_count s in
+        let e = hold_count s in
         let w = some_weight t in
         let v = count_weights (u and us) in
-        let r = as_run (omega arith) s in
-        record { made = union t (u and us); is_union = union_more b m; in_form = union_in_form forms (union_more b m); holds = is_union (omega arith) r; more = omega arith; within = low; light = omega arith; filled = run_filled r }
+        let r = hold_run (length ps) (length ps) (begins ps (hs ++ rest)) (omega arith) (after_parts ps hs rest) s in
+        record { made = union t (u and us); is_union = union_more b m; in_form = union_in_form forms (union_more b m); holds = is_union (omega arith) r; more = omega arith; within = grind (arith, common_steps); light = omega arith; filled = run_filled r }
 
 -- no type has arrived
-pub empty : (es : List TypeEntry) (first : ℕ) → Open es first 0 no_types
-empty es first = record {
-  members = no_types;
-  stored = stored_end;
-  are_members = record { all = λ t i. i; only = λ t i. i; in_order = order_none };
-  of_kinds = λ t i. elim i [ ];
-}
+pub empty : (ps es : List TypeEntry) → OpenIn ps es 0 no_types
+empty ps es = (
+  omega arith,
+  record {
+    members = no_types;
+    stored = hold_none;
+    are_members = record { all = λ t i. i; only = λ t i. i; in_order = order_none };
+    of_kinds = λ t i. elim i [ ];
+  },
+)
 
 any_in : {es : List TypeEntry} {n : ℕ} {s : Ty} {xs : Types} → Is es n Any s → Flat s xs → In any xs
 any_in is_any flat_any = in_first
@@ -101,13 +105,13 @@ brings_no_any none h (flat_one {k} tk) i = any_no_kind (subst (λ x. OfKind x k)
 brings_no_any none h (flat_members kinds) i = any_no_kind (kinds any i).1
 
 -- where the types that arrived have no room, their union has none
-pub too_heavy : (es : List TypeEntry) (used : ℕ) {ts xs : Types} {t : Ty} → Brings ts xs → (In any xs → ⊥) → HasNoRoom es used xs → UnionOf ts t → length es < used + weight t
-too_heavy es used b none short (union_any c i) = absurd (none (subst (In any) (brings_one c b) i))
-too_heavy es used b none short (union_one {t} c m) =
+pub too_heavy : (es : List TypeEntry) {ts xs : Types} {t : Ty} → Brings ts xs → (In any xs → ⊥) → HasNoRoom es xs → UnionOf ts t → length es < weight t
+too_heavy es b none short (union_any c i) = absurd (none (subst (In any) (brings_one c b) i))
+too_heavy es b none short (union_one {t} c m) =
     let h = short (t and no_types) (λ u i. m.all u (subst (In u) (brings_one b c) i)) in
     let w = some_weight t in
     omega arith
-too_heavy es used b none short (union_more {t} {u} {us} c m) =
+too_heavy es b none short (union_more {t} {u} {us} c m) =
     let h = short (t and u and us) (λ v i. m.all v (subst (In v) (brings_one b c) i)) in
     let w = count_weights (t and u and us) in
     omega arith
@@ -118,29 +122,50 @@ some_any es used a b low p s t hs ht f g =
     let y = flat_of g in
     made_any low refl (two_bring x.1 y.1) (⊎_elim (λ q. in_front y.0 (any_in (subst (λ e. Is es used e s) q hs) x.1)) (λ q. at_end x.0 (any_in (subst (λ e. Is es used e t) q ht) y.1)) p)
 
-module _ (es : List TypeEntry) (used : ℕ) (a b : TypeEntry) (not_a : a ≡ Any → ⊥) (not-b : b ≡ Any → ⊥) where
-  no_union : {s t : Ty} (xs ys : Types) → Is es used a s → Is es used b t → Flat s xs → Flat t ys → HasNoRoom es used (xs then ys) → (u : Ty) → UnionOf (s and t and no_types) u → length es < used + weight u
-  no_union xs ys hs ht f g short u =
-      too_heavy es used (two_bring f g) (λ i. ⊎_elim (λ j. brings_no_any not_a hs f j) (λ j. brings_no_any not-b ht g j) (front_or_end xs i)) short
+-- what is below the index at which a table was split is kept
+pub kept_below : {types : List TypeEntry} {used : ℕ} (ps es fs : List TypeEntry) → types ≡ ps ++ es → length ps ≡ used → Kept types (ps ++ fs) used
+kept_below ps es fs whole at j lt = grind (arith, common_steps)
 
-  pub first_none : AddsAll es es used 0 a None → MakesUnion es es used a b None
-  first_none d s t hs ht f g =
+-- the members stand first of the slots gs
+pub closed_in : (ps gs : List TypeEntry) (m : ℕ) {hs : List TypeEntry} (r : Root) → hs ≡ slice_range gs 0 m → Closes ps hs r → {ts xs : Types} → AllInForm ts → Brings ts xs → ((t : Ty) × In t xs) → Open ps (take m gs) xs → UnionMade (ps ++ gs) (length ps) ts r
+closed_in ps gs m {hs} r part close {ts} {xs} forms b some o =
+    let is = part ∙ front gs m in
+    let u = close ts xs (drop m gs) forms b some (subst (λ z. Open ps z xs) (sym is) o) in
+    let all : hs ++ drop m gs ≡ gs = ap (λ z. z ++ drop m gs) is ∙ take-append-drop m gs in
+    subst (λ z. UnionMade (ps ++ z) (length ps) ts r) all u
+
+-- of a table that is the parts ps and the slots es; these become fs, and then gs
+module _ {types : List TypeEntry} {used : ℕ} (ps es : List TypeEntry) (a b : TypeEntry) (whole : types ≡ ps ++ es) (at : length ps ≡ used) (not_a : a ≡ Any → ⊥) (not-b : b ≡ Any → ⊥) where
+  below : {e : TypeEntry} {t : Ty} → Is types used e t → Is ps (length ps) e t
+  below {e} {t} h = is_kept (begun ps es) (subst (λ n. Is (ps ++ es) n e t) (sym at) (subst (λ z. Is z used e t) whole h))
+
+  -- no room for the types that arrived
+  none_made : (gs hs : List TypeEntry) (r : Option Root) → r ≡ None → length gs ≡ length es → ((s t : Ty) (xs ys : Types) → Is ps (length ps) a s → Is ps (length ps) b t → Flat s xs → Flat t ys → HasNoRoom gs (xs then ys)) → MakesUnion types hs used a b r
+  none_made gs hs r none long short = subst (MakesUnion types hs used a b) (sym none) (λ s t hs ht f g u is.
       let x = flat_of f in
       let y = flat_of g in
-      no_union x.0 y.0 hs ht x.1 y.1 (λ ms has. d s no_types x.0 not_a hs x.1 (empty es used) ms (λ u i. has u (in_front y.0 i)))
+      let lt = too_heavy gs (two_bring x.1 y.1) (λ i. ⊎_elim (λ j. brings_no_any not_a (below hs) x.1 j) (λ j. brings_no_any not-b (below ht) y.1 j) (front_or_end x.0 i)) (short s t x.0 y.0 (below hs) (below ht) x.1 y.1) is in
+      grind (arith, common_steps))
 
-  pub second_none : (fs : List TypeEntry) (n : ℕ) → length fs ≡ length es → Kept es fs used → AddsAll es fs used 0 a (Some n) → AddsAll fs fs used n b None → MakesUnion es es used a b None
-  second_none fs n long kept d c s t hs ht f g =
-      let x = flat_of f in
-      let y = flat_of g in
-      let o = d s no_types x.0 not_a hs x.1 (empty es used) in
-      no_union x.0 y.0 hs ht x.1 y.1 (λ ms has. let short = c t x.0 y.0 not-b (is_kept (agree kept) ht) y.1 o ms has in omega arith)
+  pub first_none : (fs hs : List TypeEntry) (r : Option Root) → r ≡ None → length fs ≡ length es → AddsAll ps es fs 0 a None → MakesUnion types hs used a b r
+  first_none fs hs r none long d = none_made fs hs r none long (λ s t xs ys ha hb f g ms has. d s no_types xs not_a ha f (empty ps es) ms (λ u i. has u (in_front ys i)))
 
-  pub both : (fs gs : List TypeEntry) (n m : ℕ) (r : Root) → Kept es fs used → AddsAll es fs used 0 a (Some n) → AddsAll fs gs used n b (Some m) → Closes gs used m r → MakesUnion es gs used a b (Some r)
-  both fs gs n m r kept d c close s t hs ht f g =
-      let x = flat_of f in
-      let y = flat_of g in
-      let o = d s no_types x.0 not_a hs x.1 (empty es used) in
-      let p = c t x.0 y.0 not-b (is_kept (agree kept) ht) y.1 o in
-      let u = some_arrive x.1 in
-      close (s and t and no_types) (x.0 then y.0) (form_more f (form_more g form_none)) (two_bring x.1 y.1) (u.0, in_front y.0 u.1) p
+  module _ (fs gs : List TypeEntry) (n : ℕ) (d : AddsAll ps es fs 0 a (Some n)) where
+    pub second_none : (hs : List TypeEntry) (r : Option Root) → r ≡ None → length gs ≡ length es → AddsAll ps fs gs n b None → MakesUnion types hs used a b r
+    second_none hs r none long c = none_made gs hs r none long (λ s t xs ys ha hb f g. c t xs ys not-b hb g (d s no_types xs not_a ha f (empty ps es)))
+
+    module _ (m : ℕ) (c : AddsAll ps fs gs n b (Some m)) where
+      both_opened : {s t : Ty} {xs ys : Types} → Is ps (length ps) a s → Is ps (length ps) b t → Flat s xs → Flat t ys → OpenIn ps gs m (xs then ys)
+      both_opened ha hb f g = c _ _ _ not-b hb g (d _ no_types _ not_a ha f (empty ps es))
+
+      -- the members fit in their slots
+      pub no_more : (hs : List TypeEntry) (r : Option Root) → length gs < m → MakesUnion types hs used a b r
+      no_more hs r more s t ha hb f g = let le = (both_opened (below ha) (below hb) (flat_of f).1 (flat_of g).1).0 in absurd (omega arith)
+
+      pub both : {hs : List TypeEntry} (r : Root) → hs ≡ slice_range gs 0 m → Closes ps hs r → MakesUnion types (ps ++ gs) used a b (Some r)
+      both r part close s t ha hb f g =
+          let x = flat_of f in
+          let y = flat_of g in
+          let u = some_arrive x.1 in
+          subst (λ k. UnionMade (ps ++ gs) k (s and t and no_types) r) at
+          (closed_in ps gs m r part close (form_more f (form_more g form_none)) (two_bring x.1 y.1) (u.0, in_front y.0 u.1) (both_opened (below ha) (below hb) x.1 y.1).1)

@@ -1,29 +1,16 @@
 -- Function types made in the table. Assumes nothing.
-use Rattle.std.proofs.Common.{◌≡◌, ℕ, suc, ◌+◌, ◌-◌, ◌<◌, ◌≤◌, List, length, get_or, set, Some, sym, refl, ap, ◌∙◌, subst, add-zero, arith, length-set}
+use Rattle.std.proofs.Common.{◌≡◌, ℕ, ◌+◌, ◌-◌, ◌<◌, ◌≤◌, List, length, get_or, set, Some, sym, refl, ap, ◌∙◌, subst, arith, length-set}
 use borrow.Rule.Slice.PartMut.{put_mid}
 use Rattle.types.specs.declared.entries.TypeEntry.{TypeEntry}
 use Rattle.types.specs.declared.entries.TypeEntry.TheVariants.{Unused, Function}
-use Rattle.types.specs.Types.{Types, count}
-use Rattle.types.specs.Table.{entry_at, Is, is_function, Run, run_end, run_more}
+use Rattle.types.specs.Table.{entry_at, Is, is_function, Run}
 use Rattle.types.proofs.Lower.{Agree, is_kept, higher}
-use Rattle.building.specs.Made.{Kept, Hold, hold_none, hold_more, MakesFunction, a_type}
+use Rattle.building.specs.Made.{Kept, MakesFunction, a_type}
+use Rattle.building.proofs.Held.{hold_count, hold_run}
 use Rattle.building.proofs.OneMore.{agree}
 use Rattle.building.proofs.Closed.{some_weight, count_weights}
 use Rattle.building.proofs.Written.{elsewhere, here, kept_more, put_long, put_kept, put_holds}
 use Rattle.building.proofs.Filled.{filled_more, run_filled}
-
-pub hold_count : {es : List TypeEntry} {n : ℕ} {hs : List TypeEntry} {ts : Types} → Hold es n hs ts → count ts ≡ length hs
-hold_count hold_none = refl
-hold_count (hold_more x h) = ap suc (hold_count h)
-
--- heads in hand, written one after the other, are a run
-hold_run : {es fs : List TypeEntry} (used i : ℕ) {hs : List TypeEntry} {ts : Types} → Agree es fs used → used ≤ i → ((j : ℕ) → j < length hs → entry_at fs (i + j) ≡ get_or hs j Unused) → Hold es used hs ts → Run fs i (length hs) ts
-hold_run used i a le at hold_none = run_end
-hold_run {es} {fs} used i a le at (hold_more {e} {t} x h) =
-    let first : entry_at fs i ≡ e = simp add-zero at (at 0 (omega arith)) in
-    run_more
-    (subst (λ y. Is fs i y t) (sym first) (higher i le (is_kept a x)))
-    (hold_run used (suc i) a (omega arith) (λ j lt. let f : suc i + j ≡ i + suc j = omega arith in ap (λ y. entry_at fs y) f ∙ at (suc j) (omega arith)) h)
 
 pub function_made : (es fs : List TypeEntry) (used n : ℕ) (ps : List TypeEntry) (e : TypeEntry) → n ≡ length ps → length fs ≡ length es → used + n + 1 ≤ length es → Kept es fs used → ((j : ℕ) → j < n → entry_at fs (used + j) ≡ get_or ps j Unused) → MakesFunction es (set fs (used + n) e) used ps e (Some (record { entry = Function used n; used = used + n + 1 }))
 function_made es fs used n ps e all long room kept at ts t hs ht =

@@ -12,6 +12,7 @@ pub mod Closed
 pub mod OwnParts
 pub mod Written
 pub mod Filled
+pub mod Held
 pub mod PairsMade
 pub mod LiteralsMade
 pub mod FunctionsMade

@@ -1,16 +1,21 @@
 -- One more member in an open union. Assumes nothing.
-use Rattle.std.proofs.Common.{◌≡◌, ℕ, zero, suc, ◌+◌, ◌<◌, ◌≤◌, true, false, ◌⊎◌, List, length, Some, None, sym, refl, ap, ◌∙◌, subst, inl, inr, ⊎_elim, add-zero, arith, eq-eqb}
+use Rattle.std.proofs.Common.{◌≡◌, ℕ, zero, suc, ◌+◌, ◌-◌, ◌<◌, ◌≤◌, true, false, ◌⊎◌, List, [], ◌∷◌, ◌++◌, length, take, drop, set, Some, None, sym, refl, ap, ap₂, ◌∙◌, subst, inl, inr, ⊎_elim, arith, eq-eqb}
+use Rattle.std.specs.List.{copy_within, slice_range}
+use Rattle.std.proofs.Math.Seq.{take-append-add, take-append_seam}
+use Rattle.std.proofs.lemmas.List.{append_assoc, drop-take}
+use Rattle.std.proofs.lemmas.Grind.{common_steps}
 use Rattle.std.proofs.lemmas.Bool.{both_ways, cases_eq}
 use Rattle.types.specs.declared.entries.TypeEntry.{TypeEntry}
 use Rattle.types.specs.declared.kinds.Kind.{Kind}
 use Rattle.types.specs.Types.{Ty, Types, no_types, ◌and◌, count}
 use Rattle.types.specs.Kinds.{OfKind, number_kind, number_literal_kind, string_kind, string_literal_kind, boolean_kind, true_kind, false_kind, undefined_kind, null_kind, function_kind, pair_kind, list_kind, rank}
 use Rattle.types.specs.Table.{entry_at, Is, is_number, is_number_literal, is_string, is_string_literal, is_boolean, is_true, is_false, is_undefined, is_null, is_function, is_pair, is_list}
-use Rattle.types.proofs.Lower.{Agree, is_kept}
+use Rattle.types.proofs.Lower.{Agree}
 use Rattle.types.proofs.Verdicts.{same_rank}
 use Rattle.building.specs.Unions.{◌then◌, In, in_first, in_other, ArrivesBefore, arrives, arrives_later, Precedes, InOrder, order_none, order_more, Members}
-use Rattle.building.specs.Entries.{SaysIn, Stored, stored_end, stored_more, PutIn, Place, entry_rank, Open, Adds}
-use Rattle.building.specs.Made.{Kept}
+use Rattle.building.specs.Entries.{SaysIn, Place, entry_rank, Open, Adds}
+use Rattle.building.specs.Made.{Kept, Hold, hold_none, hold_more}
+use Rattle.building.proofs.Held.{hold_count}
 use Rattle.building.proofs.OneUnion.{not_before_itself, first_or_other, precedes_all, rest_in_order, one_kind}
 
 -- lists with types at their end
@@ -116,39 +121,28 @@ no_lower {j} tj (i, k, ti, uk, x) =
     let e : rank j ≡ rank i = ap rank (one_kind tj ti) in
     (k, uk, ⊎_elim (λ lt. omega arith) (λ z. let f : rank i ≡ rank k = ap rank z.0 in omega arith) x)
 
-find_place : {es : List TypeEntry} {xs : Types} (first : ℕ) (t : Ty) (k : Kind) (p : ℕ) {i n : ℕ} {ms : Types} → Stored es first i n ms → InOrder xs ms → ((u : Ty) → In u ms → (k : Kind) × OfKind u k) → p ≤ n → ((j : ℕ) → j < p → entry_rank (entry_at es (i + j)) ≤ rank k) → (p < n → rank k < entry_rank (entry_at es (i + p))) → (ns : Types) × Put t k p ms ns
-find_place first t k zero stored_end o kinds le before next = (t and no_types, put_here (λ u i. elim i [ ]))
-find_place first t k (suc p) stored_end o kinds le before next = absurd (omega arith)
-find_place {es} first t k zero {i} (stored_more {t = m} {ts} x s) o kinds le before next =
+find_place : {ps hs : List TypeEntry} {xs : Types} (t : Ty) (k : Kind) (p : ℕ) {ms : Types} → Hold ps (length ps) hs ms → InOrder xs ms → ((u : Ty) → In u ms → (k : Kind) × OfKind u k) → p ≤ length hs → ((j : ℕ) → j < p → entry_rank (entry_at hs j) ≤ rank k) → (p < length hs → rank k < entry_rank (entry_at hs p)) → (ns : Types) × Put t k p ms ns
+find_place t k zero hold_none o kinds le before next = (t and no_types, put_here (λ u i. elim i [ ]))
+find_place t k (suc p) hold_none o kinds le before next = absurd (omega arith)
+find_place t k zero (hold_more {e} {t = m} {ts} x s) o kinds le before next =
     let j = kinds m in_first in
-    let e : entry_rank (entry_at es i) ≡ rank j.0 = rank_held j.1 x in
-    let lt : rank k < entry_rank (entry_at es i) = simp add-zero at (next (omega arith)) in
+    let same : entry_rank e ≡ rank j.0 = rank_held j.1 x in
+    let lt : rank k < entry_rank e = next (omega arith) in
     (t and m and ts, put_here (λ u q. ⊎_elim (λ f. (j.0, subst (λ y. OfKind y j.0) (sym f) j.1, omega arith)) (λ r. let z = no_lower j.1 (precedes_all o r) in (z.0, z.1, let g = z.2 in omega arith)) (first_or_other q)))
-find_place {es} first t k (suc p) {i} (stored_more {t = m} {ts} x s) o kinds le before next =
+find_place t k (suc p) (hold_more {e} {t = m} {ts} x s) o kinds le before next =
     let j = kinds m in_first in
-    let e : entry_rank (entry_at es i) ≡ rank j.0 = rank_held j.1 x in
-    let low : entry_rank (entry_at es i) ≤ rank k = simp add-zero at (before 0 (omega arith)) in
-    let r = find_place first t k p s (rest_in_order o) (λ u q. kinds u (in_other q)) (omega arith) (λ l lt. let f : i + suc l ≡ suc i + l = omega arith in subst (λ y. entry_rank (entry_at es y) ≤ rank k) f (before (suc l) (omega arith))) (λ lt. let f : i + suc p ≡ suc i + p = omega arith in subst (λ y. rank k < entry_rank (entry_at es y)) f (next (omega arith))) in
+    let f : entry_rank e ≡ rank j.0 = rank_held j.1 x in
+    let low : entry_rank e ≤ rank k = before 0 (omega arith) in
+    let r = find_place t k p s (rest_in_order o) (λ u q. kinds u (in_other q)) (omega arith) (λ l lt. before (suc l) (omega arith)) (λ lt. next (omega arith)) in
     (m and r.0, put_later j.1 (omega arith) r.1)
 
 -- the table after
 pub agree : {es fs : List TypeEntry} {first : ℕ} → Kept es fs first → Agree es fs first
 agree k = record { same = λ j lt. sym (k j lt) }
 
-further_up : {es fs : List TypeEntry} {first i n : ℕ} {ms : Types} (end : ℕ) → end ≡ i + n → Agree es fs first → ((j : ℕ) → i ≤ j → j < end → entry_at fs (suc j) ≡ entry_at es j) → Stored es first i n ms → Stored fs first (suc i) n ms
-further_up end e a f stored_end = stored_end
-further_up {es} {fs} {first} {i} end e a f (stored_more {t} x s) = stored_more (subst (λ y. Is fs first y t) (sym (f i (omega arith) (omega arith))) (is_kept a x)) (further_up end (omega arith) a (λ j le lt. f j (omega arith) lt) s)
-
-put_stored : {es fs : List TypeEntry} {first : ℕ} {e : TypeEntry} {t : Ty} {k : Kind} (q end : ℕ) {i n p : ℕ} {ms ns : Types} → q ≡ i + p → end ≡ i + n → Agree es fs first → PutIn es fs q end e → Is es first e t → Stored es first i n ms → Put t k p ms ns → Stored fs first i (suc n) ns
-put_stored {fs} {first} {e} {t} q end {i} eq end-eq a put h s (put_here above) =
-    let f : q ≡ i = omega arith in
-    stored_more (subst (λ y. Is fs first (entry_at fs y) t) f (subst (λ y. Is fs first y t) (sym put.here) (is_kept a h))) (further_up end end-eq a (λ j le lt. put.further j (omega arith) lt) s)
-put_stored {es} {fs} {first} q end {i} eq end-eq a put h (stored_more {t = u} x s) (put_later m le r) =
-    stored_more (subst (λ y. Is fs first y u) (sym (put.below i (omega arith))) (is_kept a x)) (put_stored q end (omega arith) (omega arith) a put h s r)
-
-pub stored_count : {es : List TypeEntry} {first i n : ℕ} {ms : Types} → Stored es first i n ms → count ms ≡ n
-stored_count stored_end = refl
-stored_count (stored_more x s) = ap suc (stored_count s)
+put_held : {t : Ty} {k : Kind} {p : ℕ} {ms ns : Types} {ps hs : List TypeEntry} {e : TypeEntry} → Is ps (length ps) e t → Hold ps (length ps) hs ms → Put t k p ms ns → Hold ps (length ps) (take p hs ++ e ∷ drop p hs) ns
+put_held h s (put_here above) = hold_more h s
+put_held h (hold_more x s) (put_later m le r) = hold_more x (put_held h s r)
 
 -- a list without repeats is no longer than one that has all its types
 without : {u : Ty} {ms : Types} → In u ms → (ns : Types) × (count ms ≡ suc (count ns)) × ((v : Ty) → In v ms → (v ≡ u) ⊎ In v ns)
@@ -165,34 +159,79 @@ no_shorter (n and ns) ms o all =
     let e = w.1 in
     omega arith
 
+set_seam : (es rest : List TypeEntry) (p : ℕ) (e : TypeEntry) → p < length es → set (take (suc p) es ++ rest) p e ≡ take p es ++ e ∷ rest
+set_seam [] rest p e lt = absurd (omega arith)
+set_seam (x ∷ es) rest zero e lt = refl
+set_seam (x ∷ es) rest (suc p) e lt = ap (λ z. x ∷ z) (set_seam es rest p e (omega arith))
+
+take_front : (xs ys zs : List TypeEntry) (e : TypeEntry) (n : ℕ) → n ≡ length xs + length ys → take (n + 1) (xs ++ e ∷ (ys ++ zs)) ≡ xs ++ e ∷ ys
+take_front xs ys zs e n is =
+    let f : n + 1 ≡ length xs + suc (length ys) = omega arith in
+    ap (λ k. take k (xs ++ e ∷ (ys ++ zs))) f ∙ take-append-add xs (e ∷ (ys ++ zs)) (suc (length ys)) ∙ ap (λ z. xs ++ e ∷ z) (take-append_seam ys zs)
+
+-- the slots with an entry put in among the first n
+pub put_in : (es : List TypeEntry) (n p : ℕ) (e : TypeEntry) → p ≤ n → n < length es → take (n + 1) (set (copy_within es p n (p + 1)) p e) ≡ take p (take n es) ++ e ∷ drop p (take n es)
+put_in es n p e le lt =
+    let m = take (n - p) (drop p es) in
+    let d = drop (p + 1 + (n - p)) es in
+    let long : length (take p es) ≡ p = grind (arith, common_steps) in
+    let rest : length m ≡ n - p = grind (arith, common_steps) in
+    let sum : p + (n - p) ≡ n = omega arith in
+    let low : take p es ≡ take p (take n es) = grind (arith, common_steps) in
+    let high : m ≡ drop p (take n es) = sym (drop-take p (n - p) es) ∙ ap (λ k. drop p (take k es)) sum in
+    let next : p + 1 ≡ suc p = omega arith in
+    let pasted : copy_within es p n (p + 1) ≡ take (suc p) es ++ (m ++ d) = append_assoc (take (p + 1) es) m d ∙ ap (λ k. take k es ++ (m ++ d)) next in
+    ap (λ z. take (n + 1) (set z p e)) pasted ∙ ap (take (n + 1)) (set_seam es (m ++ d) p e (omega arith)) ∙ take_front (take p es) m d e n (omega arith) ∙ ap₂ (λ x y. x ++ e ∷ y) low high
+
+pub front : (es : List TypeEntry) (n : ℕ) → slice_range es 0 n ≡ take n es
+front es n = let e : n - 0 ≡ n = omega arith in ap (λ k. take k es) e
+
 -- the three ways out
-pub member_already : {es : List TypeEntry} {first n : ℕ} {e : TypeEntry} → SaysIn es first n e true → Adds es es first n e (Some n)
-member_already d t k xs h tk o = record { members = o.members; stored = o.stored; are_members = again ((d t o.members h o.stored).0 refl) o.are_members; of_kinds = o.of_kinds }
+pub member_already : (ps es : List TypeEntry) {hs : List TypeEntry} (n : ℕ) {e : TypeEntry} → hs ≡ slice_range es 0 n → SaysIn ps hs e true → Adds ps es es n e (Some n)
+member_already ps es n {e} is d t k xs h tk (low, o) =
+    let i = subst (λ z. SaysIn ps z e true) (is ∙ front es n) d t o.members h o.stored in
+    (low, record { members = o.members; stored = o.stored; are_members = again (i.0 refl) o.are_members; of_kinds = o.of_kinds })
 
-placed : {es : List TypeEntry} (first n p r : ℕ) {xs : Types} (t : Ty) (k : Kind) → r ≡ rank k → (o : Open es first n xs) → Place es first n r p → (ns : Types) × Put t k p o.members ns
-placed first n p r t k e o pl =
-    find_place first t k p o.stored o.are_members.in_order o.of_kinds pl.within (λ j lt. let x = pl.before j lt in omega arith) (λ lt. let x = pl.next lt in omega arith)
+placed : {ps hs : List TypeEntry} (p r : ℕ) {xs : Types} (t : Ty) (k : Kind) → r ≡ rank k → (o : Open ps hs xs) → Place hs r p → (ns : Types) × Put t k p o.members ns
+placed p r t k e o pl =
+    find_place t k p o.stored o.are_members.in_order o.of_kinds pl.within (λ j lt. let x = pl.before j lt in omega arith) (λ lt. let x = pl.next lt in omega arith)
 
-new_member : {es : List TypeEntry} {first n : ℕ} {e : TypeEntry} {t : Ty} {ms : Types} → SaysIn es first n e false → Is es first e t → Stored es first first n ms → In t ms → ⊥
+new_member : {ps hs : List TypeEntry} {e : TypeEntry} {t : Ty} {ms : Types} → SaysIn ps hs e false → Is ps (length ps) e t → Hold ps (length ps) hs ms → In t ms → ⊥
 new_member d h s i = both_ways false refl ((d _ _ h s).1 i)
 
-pub no_room : {es : List TypeEntry} {first n p r : ℕ} {e : TypeEntry} → SaysIn es first n e false → r ≡ entry_rank e → Place es first n r p → first + n ≡ length es → Adds es es first n e None
-no_room {es} {first} {n} {p} {r} d re pl full t k xs h tk o ms m =
-    let q = placed first n p r t k (re ∙ rank_held tk h) o pl in
-    let ns = put_members tk (new_member d h o.stored) o.are_members q.1 in
-    let long : count q.0 ≡ suc n = put_count q.1 ∙ ap suc (stored_count o.stored) in
-    let le = no_shorter q.0 ms ns.in_order (λ u i. m u (ns.only u i)) in
-    omega arith
+module _ (ps es : List TypeEntry) {hs : List TypeEntry} (n p r : ℕ) {e : TypeEntry} (part : hs ≡ slice_range es 0 n) (d : SaysIn ps hs e false) (re : r ≡ entry_rank e) (pl : Place hs r p) where
+  is : hs ≡ take n es
+  is = part ∙ front es n
 
-pub one_more_member : {es fs : List TypeEntry} (first n p r end : ℕ) {e : TypeEntry} → SaysIn es first n e false → r ≡ entry_rank e → Place es first n r p → end ≡ first + n → PutIn es fs (first + p) end e → Adds es fs first n e (Some (n + 1))
-one_more_member {es} {fs} first n p r end d re pl at-end-is put t k xs h tk o =
-    let q = placed first n p r t k (re ∙ rank_held tk h) o pl in
-    let a : Agree es fs first = agree (λ j lt. put.below j (omega arith)) in
-    let s = put_stored (first + p) end refl at-end-is a put h o.stored q.1 in
-    let f : suc n ≡ n + 1 = omega arith in
-    record {
-      members = q.0;
-      stored = subst (λ m. Stored fs first first m q.0) f s;
-      are_members = put_members tk (new_member d h o.stored) o.are_members q.1;
-      of_kinds = λ u i. ⊎_elim (λ g. (k, subst (λ x. OfKind x k) (sym g) tk)) (λ j. o.of_kinds u j) (put_only q.1 i);
-    }
+  -- the members with the new one
+  record With (t : Ty) (xs : Types) : Type 0 where
+    after : Types
+    held : Hold ps (length ps) (take p hs ++ e ∷ drop p hs) after
+    more : count after ≡ suc (length hs)
+    members : Members (xs then (t and no_types)) after
+    kinds : (u : Ty) → In u after → (k : Kind) × OfKind u k
+
+  with_one : {t : Ty} {k : Kind} {xs : Types} → Is ps (length ps) e t → OfKind t k → Open ps hs xs → With t xs
+  with_one {t} {k} h tk o =
+      let q = placed p r t k (re ∙ rank_held tk h) o pl in
+      record {
+        after = q.0;
+        held = put_held h o.stored q.1;
+        more = put_count q.1 ∙ ap suc (hold_count o.stored);
+        members = put_members tk (new_member d h o.stored) o.are_members q.1;
+        kinds = λ u i. ⊎_elim (λ g. (k, subst (λ x. OfKind x k) (sym g) tk)) (λ j. o.of_kinds u j) (put_only q.1 i);
+      }
+
+  pub no_room : n ≡ length es → Adds ps es es n e None
+  no_room full t k xs h tk (low, o) ms m =
+      let w = with_one h tk (subst (λ z. Open ps z xs) (sym is) o) in
+      let all : length hs ≡ n = grind (arith, common_steps) in
+      let long = w.more in
+      let le = no_shorter w.after ms w.members.in_order (λ u i. m u (w.members.only u i)) in
+      omega arith
+
+  pub one_more_member : (fs : List TypeEntry) → n + 1 ≤ length fs → take (n + 1) fs ≡ take p (take n es) ++ e ∷ drop p (take n es) → Adds ps es fs n e (Some (n + 1))
+  one_more_member fs room put t k xs h tk (low, o) =
+      let w = with_one h tk (subst (λ z. Open ps z xs) (sym is) o) in
+      let all : take p hs ++ e ∷ drop p hs ≡ take (n + 1) fs = ap (λ z. take p z ++ e ∷ drop p z) is ∙ sym put in
+      (room, record { members = w.after; stored = subst (λ z. Hold ps (length ps) z w.after) all w.held; are_members = w.members; of_kinds = w.kinds })

@@ -1,28 +1,38 @@
--- Open unions: whether a type is a member, and one more member. Assumes nothing.
-use Rattle.std.proofs.Common.{ℕ, ◌+◌, ◌<◌, ◌≤◌, true, false, List, length, sym, refl, subst, ⊎_elim, arith}
-use Rattle.std.proofs.lemmas.Bool.{both_ways, cases_eq}
+-- Open unions: whether a type is a member. Assumes nothing.
+use Rattle.std.proofs.Common.{ℕ, zero, suc, ◌<◌, Bool, true, false, List, [], ◌∷◌, length, sym, refl, subst, arith}
+use Rattle.std.proofs.lemmas.Bool.{both_ways}
 use Rattle.types.specs.declared.entries.TypeEntry.{TypeEntry}
 use Rattle.types.specs.Types.{Ty, Types, ◌and◌}
 use Rattle.types.specs.Table.{entry_at, Is}
 use Rattle.building.specs.Unions.{In, in_first, in_other}
-use Rattle.building.specs.Entries.{SaysIn, Stored, stored_end, stored_more}
-use Rattle.building.specs.Made.{SaysSameType}
+use Rattle.building.specs.Entries.{SaysIn}
+use Rattle.building.specs.Made.{SaysSameType, Hold, hold_none, hold_more}
 
-stored_one : (es : List TypeEntry) (first : ℕ) (e : TypeEntry) {i n : ℕ} {t : Ty} {ms : Types} (k : ℕ) → first ≤ length es → Is es first e t → Stored es first i n ms → i ≤ k → k < i + n → SaysSameType es first (entry_at es k) first e true → In t ms
-stored_one es first e k le h stored_end up lt d = absurd (omega arith)
-stored_one es first e {t} k le h (stored_more {i} {ts} x s) up lt d =
-    ⊎_elim
-    (λ q. subst (λ u. In t (u and ts)) (sym ((subst (λ y. SaysSameType es first (entry_at es y) first e true) (sym q) d le le _ t x h).0 refl)) in_first)
-    (λ ne. in_other (stored_one es first e k le h s (omega arith) (omega arith) d))
-    (cases_eq i k)
+-- r says whether member k is the type e
+abbrev MemberSame : List TypeEntry → List TypeEntry → TypeEntry → ℕ → Bool → Type 0
+MemberSame ps hs e k r = SaysSameType ps (length ps) (entry_at hs k) (length ps) e r
 
-stored_none : (es : List TypeEntry) (first : ℕ) (e : TypeEntry) {i n : ℕ} {t : Ty} {ms : Types} → first ≤ length es → Is es first e t → Stored es first i n ms → ((k : ℕ) → i ≤ k → k < i + n → SaysSameType es first (entry_at es k) first e false) → In t ms → ⊥
-stored_none es first e le h stored_end all p = elim p [ ]
-stored_none es first e {t} le h (stored_more {i} x s) all in_first = both_ways false refl ((all i (omega arith) (omega arith) le le t t x h).1 refl)
-stored_none es first e le h (stored_more x s) all (in_other p) = stored_none es first e le h s (λ k up lt. all k (omega arith) (omega arith)) p
+one_same : {ps : List TypeEntry} (hs : List TypeEntry) {e : TypeEntry} {t : Ty} {ms : Types} (k : ℕ) → k < length hs → Is ps (length ps) e t → Hold ps (length ps) hs ms → MemberSame ps hs e k true → In t ms
+one_same [] k lt h hold_none d = absurd (omega arith)
+one_same (x ∷ hs) {t} zero lt h (hold_more {ts} y s) d = subst (λ u. In t (u and ts)) (sym ((d (omega arith) (omega arith) _ t y h).0 refl)) in_first
+one_same (x ∷ hs) (suc k) lt h (hold_more y s) d = in_other (one_same hs k (omega arith) h s d)
 
-pub is_member : (es : List TypeEntry) (first n : ℕ) (e : TypeEntry) (k : ℕ) → first ≤ length es → first ≤ k → k < first + n → SaysSameType es first (entry_at es k) first e true → SaysIn es first n e true
-is_member es first n e k le up lt d t ms h s = (λ x. stored_one es first e k le h s up lt d, λ x. refl)
+none_same : {ps : List TypeEntry} (hs : List TypeEntry) {e : TypeEntry} {t : Ty} {ms : Types} → Is ps (length ps) e t → Hold ps (length ps) hs ms → ((k : ℕ) → k < length hs → MemberSame ps hs e k false) → In t ms → ⊥
+none_same [] h hold_none all p = elim p [ ]
+none_same (x ∷ hs) {t} h (hold_more y s) all in_first = both_ways false refl ((all 0 (omega arith) (omega arith) (omega arith) t t y h).1 refl)
+none_same (x ∷ hs) h (hold_more y s) all (in_other p) = none_same hs h s (λ k lt. all (suc k) (omega arith)) p
 
-pub no_member : (es : List TypeEntry) (first n : ℕ) (e : TypeEntry) → first ≤ length es → ((k : ℕ) → first ≤ k → k < first + n → SaysSameType es first (entry_at es k) first e false) → SaysIn es first n e false
-no_member es first n e le all t ms h s = (λ x. absurd (both_ways false refl x), λ x. absurd (stored_none es first e le h s all x))
+is_member : (ps hs : List TypeEntry) (e : TypeEntry) (k : ℕ) → k < length hs → MemberSame ps hs e k true → SaysIn ps hs e true
+is_member ps hs e k lt d t ms h s = (λ x. one_same hs k lt h s d, λ x. refl)
+
+no_member : (ps hs : List TypeEntry) (e : TypeEntry) → ((k : ℕ) → k < length hs → MemberSame ps hs e k false) → SaysIn ps hs e false
+no_member ps hs e all t ms h s = (λ x. absurd (both_ways false refl x), λ x. absurd (none_same hs h s all x))
+
+-- one of the members is the type e, or each of them is another
+abbrev pub Sought : List TypeEntry → List TypeEntry → TypeEntry → Bool → Type 0
+Sought ps hs e true = (k : ℕ) × (k < length hs) × MemberSame ps hs e k true
+Sought ps hs e false = (k : ℕ) → k < length hs → MemberSame ps hs e k false
+
+pub sought : (ps hs : List TypeEntry) (e : TypeEntry) (r : Bool) → Sought ps hs e r → SaysIn ps hs e r
+sought ps hs e true f = is_member ps hs e f.0 f.1 f.2
+sought ps hs e false f = no_member ps hs e f

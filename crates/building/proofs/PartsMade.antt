@@ -1,5 +1,7 @@
 -- The part of a union. Assumes nothing.
-use Rattle.std.proofs.Common.{◌≡◌, ℕ, zero, suc, ◌+◌, ◌-◌, ◌<◌, ◌≤◌, Bool, true, false, ◌⊎◌, List, length, Some, None, Decides, Option, Ok, Err, sym, refl, ap, ◌∙◌, subst, inl, inr, ⊎_elim, arith}
+use Rattle.std.proofs.Common.{◌≡◌, ℕ, zero, suc, ◌+◌, ◌-◌, ◌<◌, ◌≤◌, Bool, true, false, ◌⊎◌, List, ◌++◌, length, take, drop, Some, None, Decides, Option, Ok, Err, sym, refl, ap, ◌∙◌, subst, inl, inr, ⊎_elim, arith}
+use Rattle.std.specs.List.{slice_range}
+use Rattle.std.proofs.lemmas.Grind.{common_steps}
 use Rattle.std.proofs.lemmas.Bool.{both_ways}
 use Rattle.types.specs.declared.entries.TypeEntry.{TypeEntry}
 use Rattle.types.specs.declared.entries.TypeEntry.TheVariants.{Any, Union}
@@ -7,7 +9,7 @@ use Rattle.types.specs.Types.{Ty, Types, any, number, number_literal, string, st
 use Rattle.types.specs.declared.kinds.Kind.{Kind}
 use Rattle.types.specs.Kinds.{OfKind}
 use Rattle.types.specs.Table.{entry_at, Is, is_any, is_union, Run, run_end, run_more}
-use Rattle.types.proofs.Lower.{is_kept, higher}
+use Rattle.types.proofs.Lower.{run_kept}
 use Rattle.types.specs.declared.entries.Root.{Root}
 use Rattle.types.specs.Roots.{root_at}
 use Rattle.building.specs.declared.parts.NoRoom.{NoRoom}
@@ -17,17 +19,17 @@ use Rattle.building.specs.Unions.{◌then◌, Brings, brings_none, brings_any, b
 use Rattle.building.specs.Forms.{InForm, form_any, form_pair, form_list, form_union, AllInForm, form_none, form_more}
 use Rattle.building.specs.HeadsAndTails.{OwnPart, of_any, head_of_pair, tail_of_pair, head_of_list, tail_of_list, OwnParts, parts_none, parts_more, parts_without, PartOf, part_own, part_union}
 use Rattle.building.specs.Laws.{PartOrLack, PartTold}
-use Rattle.building.specs.Entries.{Flat, flat_any, flat_one, flat_members, Open, Opened, HasNoRoom, AddsAll, Closes, SaysPartAny, SaysAnyPart, AddsPart, AddsParts}
-use Rattle.building.specs.Made.{Kept, PartHeld, GivesPart, PartAnswer, MakesPart}
+use Rattle.building.specs.Entries.{Flat, flat_any, flat_one, flat_members, Open, OpenIn, Opened, HasNoRoom, AddsAll, Closes, SaysPartAny, SaysAnyPart, AddsPart, AddsParts}
+use Rattle.building.specs.Made.{Hold, PartHeld, GivesPart, UnionMade, PartAnswer, MakesPart}
 use Rattle.building.proofs.OneUnion.{brings_one, own_one, own_parts_one, no_own, any_no_kind, union_no_kind}
 use Rattle.building.proofs.InOneForm.{front_or_end, flat_of, flat_brings, union_kinds, first_form, other_forms, members_forms}
 use Rattle.building.proofs.Same.{known, run_from}
-use Rattle.building.proofs.Weigh.{next}
-use Rattle.building.proofs.OneMore.{agree, in_front, at_end, stored_count}
-use Rattle.building.proofs.AllMembers.{then_assoc, then_none, no_others}
+use Rattle.building.proofs.OneMore.{in_front, at_end, front}
+use Rattle.building.proofs.Held.{next_held, none_after, run_held, hold_count, begun}
+use Rattle.building.proofs.AllMembers.{then_assoc, then_none}
 use Rattle.building.proofs.Filled.{filled_none}
 use Rattle.building.proofs.Unite.{arrive, union_exists}
-use Rattle.building.proofs.Closed.{empty, any_held, some_weight, too_heavy}
+use Rattle.building.proofs.Closed.{empty, any_held, some_weight, too_heavy, closed_in}
 
 -- the types with parts of their own
 data HasOwn : Ty → Type 0 where
@@ -172,27 +174,27 @@ none_any es first end side d up room ts r = (
 nothing_brought : {xs : Types} → Brings no_types xs → xs ≡ no_types
 nothing_brought brings_none = refl
 
-pub no_part_added : (es : List TypeEntry) (first n : ℕ) (e : TypeEntry) (side : Side) → ((t : Ty) → Is es first e t → (p : Ty) → OwnPart side t p → ⊥) → AddsPart es es first n e side (Some n)
-no_part_added es first n e side none t ps xs ys h form own b free o = go own b
+pub no_part_added : (ps es : List TypeEntry) (n : ℕ) (e : TypeEntry) (side : Side) → ((t : Ty) → Is ps (length ps) e t → (p : Ty) → OwnPart side t p → ⊥) → AddsPart ps es es n e side (Some n)
+no_part_added ps es n e side none t qs xs ys h form own b free o = go own b
   where
-    go : {ps : Types} → OwnParts side (t and no_types) ps → Brings ps ys → Open es first n (xs then ys)
+    go : {qs : Types} → OwnParts side (t and no_types) qs → Brings qs ys → OpenIn ps es n (xs then ys)
     go (parts_more q r) c = absurd (none t h _ q)
-    go (parts_without q parts_none) c = subst (λ x. Open es first n x) (sym (ap (λ z. xs then z) (nothing_brought c) ∙ then_none xs)) o
+    go (parts_without q parts_none) c = subst (λ x. OpenIn ps es n x) (sym (ap (λ z. xs then z) (nothing_brought c) ∙ then_none xs)) o
 
-pub part_added : (es fs : List TypeEntry) (first n : ℕ) (e p : TypeEntry) (side : Side) (r : Option ℕ) → ((t : Ty) → Is es first e t → PartHeld es first side t p) → AddsAll es fs first n p r → AddsPart es fs first n e side r
-part_added es fs first n e p side r f d t ps xs ys h form own b free o = go own b
+pub part_added : (ps es fs : List TypeEntry) (n : ℕ) (e p : TypeEntry) (side : Side) (r : Option ℕ) → ((t : Ty) → Is ps (length ps) e t → PartHeld ps (length ps) side t p) → AddsAll ps es fs n p r → AddsPart ps es fs n e side r
+part_added ps es fs n e p side r f d t qs xs ys h form own b free o = go own b
   where
-    q : PartHeld es first side t p
+    q : PartHeld ps (length ps) side t p
     q = f t h
 
-    go : {ps : Types} → OwnParts side (t and no_types) ps → Brings ps ys → Opened es fs first (xs then ys) r
+    go : {qs : Types} → OwnParts side (t and no_types) qs → Brings qs ys → Opened ps fs (xs then ys) r
     go (parts_without none s) c = absurd (none _ q.is_part)
     go (parts_more {p = u} x parts_none) c =
         let same : q.part ≡ u = own_one q.is_part x in
         let g = flat_of (own_form x form) in
         let all : g.0 ≡ ys = sym (then_none g.0) ∙ brings_one (flat_brings g.1 brings_none) c in
-        let held : Is es first p u = subst (λ y. Is es first p y) same q.holds in
-        subst (λ y. Opened es fs first (xs then y) r) all
+        let held : Is ps (length ps) p u = subst (λ y. Is ps (length ps) p y) same q.holds in
+        subst (λ y. Opened ps fs (xs then y) r) all
         (d u xs g.0 (λ k. free (any_arrives c (subst (λ y. In any (y and no_types)) (sym (held_as_any (known k held))) in_first))) held g.1 o)
 
 -- the parts of a list of types, taken one by one
@@ -206,50 +208,38 @@ split_brings (t and ts) us (brings_any b) = let r = split_brings ts us b in (any
 split_brings (t and ts) us (brings_itself k b) = let r = split_brings ts us b in (t and r.0, r.1, brings_itself k r.2, r.3, ap (λ x. t and x) r.4)
 split_brings (t and ts) us (brings_members {xs} c b) = let r = split_brings ts us b in (xs then r.0, r.1, brings_members c r.2, r.3, ap (λ x. xs then x) r.4 ∙ sym (then_assoc xs r.0 r.1))
 
--- where the parts of the types before the index k of a run have been added
-pub record PartWay (es fs : List TypeEntry) (used end : ℕ) (side : Side) (k n : ℕ) (xs : Types) : Type 0 where
+-- where the parts of the first k of the entries hs have been added
+pub record PartWay (ps fs hs : List TypeEntry) (side : Side) (k n : ℕ) (xs : Types) : Type 0 where
   pub done : Types
   pub left : Types
   pub parts : Types
   pub come : Types
   pub all : xs ≡ (done then come)
-  pub others : Run es k (end - k) left
+  pub others : Hold ps (length ps) (drop k hs) left
   pub forms : AllInForm left
   pub own : OwnParts side left parts
   pub brings : Brings parts come
-  pub opened : Open fs used n done
+  pub opened : OpenIn ps fs n done
 
-abbrev pub Parting : List TypeEntry → List TypeEntry → ℕ → ℕ → ℕ → Side → ℕ → ℕ → Type 0
-Parting es fs used first end side k n =
-    (length fs ≡ length es) × Kept es fs used × (used + n ≤ length fs)
-    × ((ts ps xs : Types) → Run es first (end - first) ts → AllInForm ts → OwnParts side ts ps → Brings ps xs → (In any xs → ⊥) → PartWay es fs used end side k n xs)
+abbrev pub Parting : List TypeEntry → List TypeEntry → List TypeEntry → Side → ℕ → ℕ → Type 0
+Parting ps fs hs side k n = (ts qs xs : Types) → Hold ps (length ps) hs ts → AllInForm ts → OwnParts side ts qs → Brings qs xs → (In any xs → ⊥) → PartWay ps fs hs side k n xs
 
-pub none_parted : (es : List TypeEntry) (used first end : ℕ) (side : Side) → used ≤ length es → Parting es es used first end side first 0
-none_parted es used first end side low = (
-  refl,
-  λ j lt. refl,
-  omega arith,
-  λ ts ps xs r fs o b free.
-      record {
-        done = no_types;
-        left = ts;
-        parts = ps;
-        come = xs;
-        all = refl;
-        others = r;
-        forms = fs;
-        own = o;
-        brings = b;
-        opened = empty es used;
-      },
-)
+pub none_parted : (ps es hs : List TypeEntry) (side : Side) → Parting ps es hs side 0 0
+none_parted ps es hs side ts qs xs r fs o b free =
+    record {
+      done = no_types;
+      left = ts;
+      parts = qs;
+      come = xs;
+      all = refl;
+      others = r;
+      forms = fs;
+      own = o;
+      brings = b;
+      opened = empty ps es;
+    }
 
-module _ (es fs : List TypeEntry) (used first end : ℕ) (side : Side) (k n : ℕ) (lt : k < end) (low : end ≤ used) (a : Parting es fs used first end side k n) where
-  member_held : {t : Ty} → Is es k (entry_at es k) t → Is fs used (entry_at fs k) t
-  member_held {t} x =
-      let e : entry_at fs k ≡ entry_at es k = a.1 k (omega arith) in
-      subst (λ y. Is fs used y t) (sym e) (is_kept (agree a.1) (higher used (omega arith) x))
-
+module _ (ps fs hs : List TypeEntry) (side : Side) (k n : ℕ) (lt : k < length hs) (a : Parting ps fs hs side k n) where
   -- the next type, its parts and what they bring
   record NextPart (xs : Types) : Type 0 where
     done : Types
@@ -258,21 +248,21 @@ module _ (es fs : List TypeEntry) (used first end : ℕ) (side : Side) (k n : �
     left : Types
     parts : Types
     t : Ty
-    ps : Types
+    qs : Types
     all : xs ≡ (done then (ys then zs))
-    held : Is es k (entry_at es k) t
+    held : Is ps (length ps) (entry_at hs k) t
     form : InForm t
-    own : OwnParts side (t and no_types) ps
-    brings : Brings ps ys
-    others : Run es (suc k) ((end - k) - 1) left
+    own : OwnParts side (t and no_types) qs
+    brings : Brings qs ys
+    others : Hold ps (length ps) (drop (k + 1) hs) left
     forms : AllInForm left
     owns : OwnParts side left parts
     rest : Brings parts zs
-    opened : Open fs used n done
+    opened : OpenIn ps fs n done
 
-  next_part : {xs : Types} → PartWay es fs used end side k n xs → NextPart xs
+  next_part : {xs : Types} → PartWay ps fs hs side k n xs → NextPart xs
   next_part {xs} w =
-      let q = next (omega arith) w.others in
+      let q = next_held hs k lt w.others in
       let fs' = subst (λ x. AllInForm x) q.2 w.forms in
       let o = split_own (subst (λ x. OwnParts side x w.parts) q.2 w.own) in
       let b = split_brings o.0 o.1 (subst (λ x. Brings x w.come) o.4 w.brings) in
@@ -283,7 +273,7 @@ module _ (es fs : List TypeEntry) (used first end : ℕ) (side : Side) (k n : �
         left = q.1;
         parts = o.1;
         t = q.0;
-        ps = o.0;
+        qs = o.0;
         all = w.all ∙ ap (λ x. w.done then x) b.4;
         held = q.3;
         form = first_form fs';
@@ -299,46 +289,37 @@ module _ (es fs : List TypeEntry) (used first end : ℕ) (side : Side) (k n : �
   not_any : {xs : Types} (p : NextPart xs) → (In any xs → ⊥) → In any p.ys → ⊥
   not_any p free i = free (subst (λ x. In any x) (sym p.all) (at_end p.done (in_front p.zs i)))
 
-  pub more_parted : {gs : List TypeEntry} {i j : ℕ} → i ≡ k + 1 → length gs ≡ length fs → Kept fs gs used → used + j ≤ length gs → AddsPart fs gs used n (entry_at fs k) side (Some j) → Parting es gs used first end side i j
-  more_parted {gs} {i} {j} at-next long kept within d = (
-    long ∙ a.0,
-    λ q l. kept q l ∙ a.1 q l,
-    within,
-    λ ts ps xs r forms o b free.
-        let p = next_part (a.3 ts ps xs r forms o b free) in
-        let e : suc k ≡ i = omega arith in
-        let f : (end - k) - 1 ≡ end - i = omega arith in
-        record {
-          done = p.done then p.ys;
-          left = p.left;
-          parts = p.parts;
-          come = p.zs;
-          all = p.all ∙ sym (then_assoc p.done p.ys p.zs);
-          others = subst (λ x. Run es x (end - i) p.left) e (subst (λ x. Run es (suc k) x p.left) f p.others);
-          forms = p.forms;
-          own = p.owns;
-          brings = p.rest;
-          opened = d p.t p.ps p.done p.ys (member_held p.held) p.form p.own p.brings (not_any p free) p.opened;
-        },
-  )
+  pub more_parted : (gs : List TypeEntry) (j : ℕ) → AddsPart ps fs gs n (entry_at hs k) side (Some j) → Parting ps gs hs side (k + 1) j
+  more_parted gs j d ts qs xs r forms o b free =
+      let p = next_part (a ts qs xs r forms o b free) in
+      record {
+        done = p.done then p.ys;
+        left = p.left;
+        parts = p.parts;
+        come = p.zs;
+        all = p.all ∙ sym (then_assoc p.done p.ys p.zs);
+        others = p.others;
+        forms = p.forms;
+        own = p.owns;
+        brings = p.rest;
+        opened = d p.t p.qs p.done p.ys p.held p.form p.own p.brings (not_any p free) p.opened;
+      }
 
-  pub parts_none_fit : AddsPart fs fs used n (entry_at fs k) side None → AddsParts es es used first end side None
-  parts_none_fit d ts ps xs r forms o b free ms has =
-      let p = next_part (a.3 ts ps xs r forms o b free) in
-      let e = a.0 in
-      let short = d p.t p.ps p.done p.ys (member_held p.held) p.form p.own p.brings (not_any p free) p.opened ms (λ u i. has u (subst (λ x. In u x) (sym (p.all ∙ sym (then_assoc p.done p.ys p.zs))) (in_front p.zs i))) in
-      omega arith
+  pub parts_none_fit : (gs : List TypeEntry) (r : Option ℕ) → r ≡ None → AddsPart ps fs gs n (entry_at hs k) side None → AddsParts ps gs hs side r
+  parts_none_fit gs r none d = subst (AddsParts ps gs hs side) (sym none) (λ ts qs xs r forms o b free ms has.
+      let p = next_part (a ts qs xs r forms o b free) in
+      d p.t p.qs p.done p.ys p.held p.form p.own p.brings (not_any p free) p.opened ms (λ u i. has u (subst (λ x. In u x) (sym (p.all ∙ sym (then_assoc p.done p.ys p.zs))) (in_front p.zs i))))
 
 no_parts_left : {s : Side} {ps : Types} → OwnParts s no_types ps → ps ≡ no_types
 no_parts_left parts_none = refl
 
-pub all_parted : (es fs : List TypeEntry) (used first end : ℕ) (side : Side) (k n : ℕ) → end - k ≡ 0 → Parting es fs used first end side k n → AddsParts es fs used first end side (Some n)
-all_parted es fs used first end side k n none a ts ps xs r forms o b free =
-    let w = a.3 ts ps xs r forms o b free in
-    let e : w.left ≡ no_types = no_others (end - k) none w.others in
+pub all_parted : (ps fs hs : List TypeEntry) (side : Side) (k n : ℕ) → length hs ≤ k → Parting ps fs hs side k n → AddsParts ps fs hs side (Some n)
+all_parted ps fs hs side k n le a ts qs xs r forms o b free =
+    let w = a ts qs xs r forms o b free in
+    let e : w.left ≡ no_types = none_after hs k le w.others in
     let f : w.parts ≡ no_types = no_parts_left (subst (λ x. OwnParts side x w.parts) e w.own) in
     let g : w.come ≡ no_types = nothing_brought (subst (λ x. Brings x w.come) f w.brings) in
-    subst (λ x. Open fs used n x) (sym (w.all ∙ ap (λ x. w.done then x) g ∙ then_none w.done)) w.opened
+    subst (λ x. OpenIn ps fs n x) (sym (w.all ∙ ap (λ x. w.done then x) g ∙ then_none w.done)) w.opened
 
 -- the ways out of `part_of`
 pub own_made : (es : List TypeEntry) (used : ℕ) (e p : TypeEntry) (side : Side) → GivesPart es used e side (Some p) → MakesPart es es used e side (Ok (Some (record { entry = p; used = used })))
@@ -407,52 +388,71 @@ module _ (es : List TypeEntry) (used first size from end : ℕ) (e : TypeEntry) 
         let w = own_from q.own (any_given q.brings (own_forms q.own q.members_form) i) in
         both_ways false refl ((d (omega arith) (omega arith) (q.head and q.tail) (run_here q.run)).1 w)
 
-    pub no_room_made : AddsParts es es used from end side None → (n : NoRoom) → MakesPart es es used e side (Err n)
-    no_room_made f n low t h form = go q.ps refl
-      where
-        q : PartsOf es first size side t
-        q = parts_of side (known is h) form
+    -- the table is the parts ps and the slots ss, which become fs; hs are the members among the parts
+    module _ (ps ss fs hs : List TypeEntry) (whole : es ≡ ps ++ ss) (split : length ps ≡ used) (part : hs ≡ slice_range ps from end) where
+      members_held : {t : Ty} (q : PartsOf es first size side t) → Hold ps (length ps) hs (q.head and q.tail)
+      members_held q =
+          let ts = q.head and q.tail in
+          let r = run_kept (length ps) (omega arith) (begun ps ss) (subst (λ z. Run z first size ts) whole q.run) in
+          let h = run_held (length ps) (omega arith) (omega arith) r in
+          let n : size ≡ end - from = omega arith in
+          subst (λ z. Hold ps (length ps) z ts) (sym part) (subst (λ k. Hold ps (length ps) (take (end - from) (drop k ps)) ts) (sym at) (subst (λ k. Hold ps (length ps) (take k (drop first ps)) ts) n h))
 
-        short : HasNoRoom es used q.xs
-        short = f (q.head and q.tail) q.ps q.xs (run_here q.run) q.members_form q.own q.brings (no_any q)
-
-        go : (ps : Types) → q.ps ≡ ps → PartAnswer es es used side t (Err n)
-        go no_types g =
-            let none : q.xs ≡ no_types = nothing_brought (subst (λ x. Brings x q.xs) g q.brings) in
-            let s = short no_types (λ u i. subst (λ x. In u x) none i) in
-            absurd (omega arith)
-        go (p and ps) g =
-            let u = union_exists p ps (subst (λ x. AllInForm x) g (own_forms q.own q.members_form)) in
-            let v = subst (λ x. UnionOf x u.0) (sym g) u.1 in
-            (u.0, is_union_part q v, too_heavy es used q.brings (no_any q) short v)
-
-    module _ (fs : List TypeEntry) (n : ℕ) (f : AddsParts es fs used from end side (Some n)) where
-      open_parts : {t : Ty} (q : PartsOf es first size side t) → Open fs used n q.xs
-      open_parts q = f (q.head and q.tail) q.ps q.xs (run_here q.run) q.members_form q.own q.brings (no_any q)
-
-      pub union_lacking : n ≡ 0 → MakesPart es fs used e side (Ok None)
-      union_lacking zero_is low t h form p o =
-          let q = parts_of side (known is h) form in
-          let u = union_part q.own (subst (λ x. PartOf side x p) q.is_it o) in
-          let i = united_some q.brings u in
-          let m = open_parts q in
-          no_members m.members (stored_count m.stored) (m.are_members.all i.0 i.1)
+      pub no_room_made : (gs : List TypeEntry) (n : NoRoom) → length fs ≡ length ss → AddsParts ps fs hs side None → MakesPart es gs used e side (Err n)
+      no_room_made gs n same f low t h form = go q.ps refl
         where
-          no_members : {u : Ty} (ms : Types) → count ms ≡ n → In u ms → ⊥
-          no_members no_types c i = elim i [ ]
-          no_members (m and ms) c i = omega arith
+          q : PartsOf es first size side t
+          q = parts_of side (known is h) form
 
-      pub union_part_made : (r : Root) → (n ≡ 0 → ⊥) → Closes fs used n r → MakesPart es fs used e side (Ok (Some r))
-      union_part_made r some close low t h form =
-          let q = parts_of side (known is h) form in
-          let m = open_parts q in
-          let i = a_member m.members (stored_count m.stored) in
-          let u = close q.ps q.xs (own_forms q.own q.members_form) q.brings (i.0, m.are_members.only i.0 i.1) m in
-          record { made = u.made; is_part = is_union_part {p = u.made} q u.is_union; in_form = u.in_form; holds = u.holds; more = u.more; within = u.within; light = u.light; filled = u.filled }
-        where
-          a_member : (ms : Types) → count ms ≡ n → (u : Ty) × In u ms
-          a_member no_types c = absurd (some (sym c))
-          a_member (m and ms) c = (m, in_first)
+          short : HasNoRoom fs q.xs
+          short = f (q.head and q.tail) q.ps q.xs (members_held q) q.members_form q.own q.brings (no_any q)
+
+          go : (qs : Types) → q.ps ≡ qs → PartAnswer es gs used side t (Err n)
+          go no_types g =
+              let none : q.xs ≡ no_types = nothing_brought (subst (λ x. Brings x q.xs) g q.brings) in
+              let s = short no_types (λ u i. subst (λ x. In u x) none i) in
+              absurd (omega arith)
+          go (p and qs) g =
+              let u = union_exists p qs (subst (λ x. AllInForm x) g (own_forms q.own q.members_form)) in
+              let v = subst (λ x. UnionOf x u.0) (sym g) u.1 in
+              let lt = too_heavy fs q.brings (no_any q) short v in
+              (u.0, is_union_part q v, grind (arith, common_steps))
+
+      module _ (n : ℕ) (f : AddsParts ps fs hs side (Some n)) where
+        open_parts : {t : Ty} (q : PartsOf es first size side t) → OpenIn ps fs n q.xs
+        open_parts q = f (q.head and q.tail) q.ps q.xs (members_held q) q.members_form q.own q.brings (no_any q)
+
+        -- the members fit in their slots
+        pub none_beyond : (gs : List TypeEntry) (r : NoRoom) → length fs < n → MakesPart es gs used e side (Err r)
+        none_beyond gs r more low t h form = let o = open_parts (parts_of side (known is h) form) in let le = o.0 in absurd (omega arith)
+
+        module _ (ms : List TypeEntry) (first-of : ms ≡ slice_range fs 0 n) where
+          members_count : {xs : Types} (o : Open ps (take n fs) xs) → count o.members ≡ length ms
+          members_count o = hold_count o.stored ∙ ap length (sym (first-of ∙ front fs n))
+
+          pub union_lacking : (gs : List TypeEntry) → length ms ≡ 0 → MakesPart es gs used e side (Ok None)
+          union_lacking gs zero_is low t h form p o =
+              let q = parts_of side (known is h) form in
+              let u = union_part q.own (subst (λ x. PartOf side x p) q.is_it o) in
+              let i = united_some q.brings u in
+              let m = (open_parts q).1 in
+              no_members m.members (members_count m) (m.are_members.all i.0 i.1)
+            where
+              no_members : {u : Ty} (ts : Types) → count ts ≡ length ms → In u ts → ⊥
+              no_members no_types c i = elim i [ ]
+              no_members (m and ts) c i = omega arith
+
+          pub union_part_made : (r : Root) → (length ms ≡ 0 → ⊥) → Closes ps ms r → MakesPart es (ps ++ fs) used e side (Ok (Some r))
+          union_part_made r some close low t h form =
+              let q = parts_of side (known is h) form in
+              let m = (open_parts q).1 in
+              let i = a_member m.members (members_count m) in
+              let u = subst (λ k. UnionMade (ps ++ fs) k q.ps r) split (closed_in ps fs n r first-of close (own_forms q.own q.members_form) q.brings (i.0, m.are_members.only i.0 i.1) m) in
+              record { made = u.made; is_part = is_union_part {p = u.made} q u.is_union; in_form = u.in_form; holds = u.holds; more = u.more; within = u.within; light = u.light; filled = u.filled }
+            where
+              a_member : (ts : Types) → count ts ≡ length ms → (u : Ty) × In u ts
+              a_member no_types c = absurd (some (sym c))
+              a_member (m and ts) c = (m, in_first)
 
 -- whether a type has a part
 kind_part : {s : Side} {t p : Ty} {k : Kind} → OfKind t k → PartOf s t p → OwnPart s t p

@@ -1,5 +1,5 @@
 -- What the inner functions say of entries. No public contract cites it. Assumes nothing.
-use Rattle.std.specs.Prelude.{◌≡◌, ℕ, suc, ◌+◌, ◌-◌, ◌^◌, ◌<◌, ◌≤◌, min, Bool, false, List, length, Some, None, Decides, Option, ◌≢◌}
+use Rattle.std.specs.Prelude.{◌≡◌, ℕ, ◌+◌, ◌-◌, ◌^◌, ◌<◌, ◌≤◌, min, Bool, false, List, length, take, ◌++◌, Some, None, Decides, Option, ◌≢◌}
 use Rattle.types.specs.declared.entries.TypeEntry.{TypeEntry}
 use Rattle.types.specs.declared.entries.TypeEntry.TheVariants.{Unused, Any, Number, NumberLiteral, String, StringLiteral, CodeUnit, Boolean, True, False, Undefined, Null, Function, Pair, List as ListOf, Union}
 use Rattle.types.specs.Types.{Ty, Types, any, union, no_types, ◌and◌, count}
@@ -11,7 +11,7 @@ use Rattle.building.specs.Forms.{InForm, AllInForm}
 use Rattle.building.specs.declared.parts.Side.{Side}
 use Rattle.building.specs.HeadsAndTails.{OwnPart, OwnParts}
 use Rattle.types.specs.declared.entries.Root.{Root}
-use Rattle.building.specs.Made.{UnionMade, SaysSameType}
+use Rattle.building.specs.Made.{UnionMade, SaysSameType, Hold}
 use Rattle.building.specs.Weights.{weight, weights}
 use Rattle.std.specs.Option.{unwrap_or}
 
@@ -34,56 +34,45 @@ SaysPartsWeigh es n e limit None = n ≤ length es → (t : Ty) → Is es n e t 
 abbrev pub SaysRunWeighs : List TypeEntry → ℕ → ℕ → ℕ → ℕ → Type 0
 SaysRunWeighs es first end limit r = end ≤ length es → (ts : Types) → Run es first (end - first) ts → r ≡ min (weights ts) limit
 
--- the entries from i on, n of them, are the types of a list, with their parts below first
-pub data Stored (es : List TypeEntry) (first : ℕ) : ℕ → ℕ → Types → Type 0 where
-  stored_end : {i : ℕ} → Stored es first i 0 no_types
-  stored_more : {i n : ℕ} {t : Ty} {ts : Types} → Is es first (entry_at es i) t → Stored es first (suc i) n ts → Stored es first i (suc n) (t and ts)
-
--- r says whether the type e is one of the n stored from first on
-abbrev pub SaysIn : List TypeEntry → ℕ → ℕ → TypeEntry → Bool → Type 0
-SaysIn es first n e r = (t : Ty) (ms : Types) → Is es first e t → Stored es first first n ms → Decides r (In t ms)
+-- r says whether the type e is one of those that the entries hs hold, all with their parts in ps
+abbrev pub SaysIn : List TypeEntry → List TypeEntry → TypeEntry → Bool → Type 0
+SaysIn ps hs e r = (t : Ty) (ms : Types) → Is ps (length ps) e t → Hold ps (length ps) hs ms → Decides r (In t ms)
 
 -- the rank of an entry's kind; `any` and a union have none
 abbrev pub entry_rank : TypeEntry → ℕ
 entry_rank e = elim (entry_kind e) [ Some k ↦ rank k | None ↦ 12 ]
 
--- of n entries from first on, the first p have no higher rank, and the next one has
-pub record Place (es : List TypeEntry) (first n : ℕ) (r : ℕ) (p : ℕ) : Type 0 where
-  pub within : p ≤ n
-  pub before : (j : ℕ) → j < p → entry_rank (entry_at es (first + j)) ≤ r
-  pub next : p < n → r < entry_rank (entry_at es (first + p))
+-- of the entries hs, the first p have no higher rank than r, and the next one has
+pub record Place (hs : List TypeEntry) (r p : ℕ) : Type 0 where
+  pub within : p ≤ length hs
+  pub before : (j : ℕ) → j < p → entry_rank (entry_at hs j) ≤ r
+  pub next : p < length hs → r < entry_rank (entry_at hs p)
 
--- fs is es with e put in at p, and the entries from p on, below end, one further up
-pub record PutIn (es fs : List TypeEntry) (p end : ℕ) (e : TypeEntry) : Type 0 where
-  pub below : (j : ℕ) → j < p → entry_at fs j ≡ entry_at es j
-  pub here : entry_at fs p ≡ e
-  pub further : (j : ℕ) → p ≤ j → j < end → entry_at fs (suc j) ≡ entry_at es j
-
--- the members of the types that arrived, none of them `any` or a union, are stored from first on
-pub record Open (es : List TypeEntry) (first n : ℕ) (xs : Types) : Type 0 where
+-- the entries hs, with their parts in ps, are the members of the types that arrived, none of them `any` or a union
+pub record Open (ps hs : List TypeEntry) (xs : Types) : Type 0 where
   pub members : Types
-  pub stored : Stored es first first n members
+  pub stored : Hold ps (length ps) hs members
   pub are_members : Members xs members
   pub of_kinds : (t : Ty) → In t members → (k : Kind) × OfKind t k
 
--- no list with all the types that arrived fits in from first on
-abbrev pub HasNoRoom : List TypeEntry → ℕ → Types → Type 0
-HasNoRoom es first xs = (ms : Types) → ((t : Ty) → In t xs → In t ms) → length es < first + count ms
+-- the first n of some slots are
+abbrev pub OpenIn : List TypeEntry → List TypeEntry → ℕ → Types → Type 0
+OpenIn ps es n xs = n ≤ length es × Open ps (take n es) xs
 
--- the answer r: how many members the types that arrived have in fs, or that there is no room for them in es
-abbrev pub Opened : List TypeEntry → List TypeEntry → ℕ → Types → Option ℕ → Type 0
-Opened es fs first xs (Some m) = Open fs first m xs
-Opened es fs first xs None = HasNoRoom es first xs
+-- no list with all the types that arrived fits in
+abbrev pub HasNoRoom : List TypeEntry → Types → Type 0
+HasNoRoom es xs = (ms : Types) → ((t : Ty) → In t xs → In t ms) → length es < count ms
 
--- es with an open union of n members becomes fs with the same and one more type, or there is no room
-abbrev pub Adds : List TypeEntry → List TypeEntry → ℕ → ℕ → TypeEntry → Option ℕ → Type 0
-Adds es fs first n e r =
-    (t : Ty) (k : Kind) (xs : Types) → Is es first e t → OfKind t k → Open es first n xs
-    → Opened es fs first (xs then (t and no_types)) r
+-- the answer r: how many of the slots fs are members of the types that arrived, or that they have no room
+abbrev pub Opened : List TypeEntry → List TypeEntry → Types → Option ℕ → Type 0
+Opened ps fs xs (Some m) = OpenIn ps fs m xs
+Opened ps fs xs None = HasNoRoom fs xs
 
--- the number of members that r gives lies within the table
-abbrev pub Within : List TypeEntry → ℕ → Option ℕ → Type 0
-Within fs first r = elim r [ Some m ↦ first + m ≤ length fs | None ↦ Unit ]
+-- the slots es, of which n are members, become fs with one more type, or there is no room
+abbrev pub Adds : List TypeEntry → List TypeEntry → List TypeEntry → ℕ → TypeEntry → Option ℕ → Type 0
+Adds ps es fs n e r =
+    (t : Ty) (k : Kind) (xs : Types) → Is ps (length ps) e t → OfKind t k → OpenIn ps es n xs
+    → Opened ps fs (xs then (t and no_types)) r
 
 -- the type brings the types of the list: itself, or its members, which are neither `any` nor unions
 pub data Flat : Ty → Types → Type 0 where
@@ -92,14 +81,14 @@ pub data Flat : Ty → Types → Type 0 where
   flat_members : {t : Ty} {ts : Types} → ((u : Ty) → In u (t and ts) → (k : Kind) × OfKind u k) → Flat (union t ts) (t and ts)
 
 -- the same of all that the type e, which is not `any`, brings
-abbrev pub AddsAll : List TypeEntry → List TypeEntry → ℕ → ℕ → TypeEntry → Option ℕ → Type 0
-AddsAll es fs first n e r =
-    (t : Ty) (xs ys : Types) → (e ≢ Any) → Is es first e t → Flat t ys → Open es first n xs
-    → Opened es fs first (xs then ys) r
+abbrev pub AddsAll : List TypeEntry → List TypeEntry → List TypeEntry → ℕ → TypeEntry → Option ℕ → Type 0
+AddsAll ps es fs n e r =
+    (t : Ty) (xs ys : Types) → (e ≢ Any) → Is ps (length ps) e t → Flat t ys → OpenIn ps es n xs
+    → Opened ps fs (xs then ys) r
 
--- the open union of n members in es, closed, is m
-abbrev pub Closes : List TypeEntry → ℕ → ℕ → Root → Type 0
-Closes es first n m = (ts xs : Types) → AllInForm ts → Brings ts xs → ((t : Ty) × In t xs) → Open es first n xs → UnionMade es first ts m
+-- the open union of the entries hs, which stand right after ps in a table, closed, is m
+abbrev pub Closes : List TypeEntry → List TypeEntry → Root → Type 0
+Closes ps hs m = (ts xs : Types) (rest : List TypeEntry) → AllInForm ts → Brings ts xs → ((t : Ty) × In t xs) → Open ps hs xs → UnionMade (ps ++ (hs ++ rest)) (length ps) ts m
 
 -- r says whether the part on a side of the type e, with its parts below n, is `any`
 abbrev pub SaysPartAny : List TypeEntry → ℕ → TypeEntry → Side → Bool → Type 0
@@ -109,17 +98,17 @@ SaysPartAny es n e side r = n ≤ length es → (t : Ty) → Is es n e t → Dec
 abbrev pub SaysAnyPart : List TypeEntry → ℕ → ℕ → Side → Bool → Type 0
 SaysAnyPart es first end side r = first ≤ end → end ≤ length es → (ts : Types) → Run es first (end - first) ts → Decides r ((t : Ty) × In t ts × OwnPart side t any)
 
--- es with an open union of n members becomes fs with the same and all that the part of the type e brings
-abbrev pub AddsPart : List TypeEntry → List TypeEntry → ℕ → ℕ → TypeEntry → Side → Option ℕ → Type 0
-AddsPart es fs first n e side r =
-    (t : Ty) (ps xs ys : Types) → Is es first e t → InForm t → OwnParts side (t and no_types) ps → Brings ps ys → (In any ys → ⊥) → Open es first n xs
-    → Opened es fs first (xs then ys) r
+-- the same of all that the part of the type e brings
+abbrev pub AddsPart : List TypeEntry → List TypeEntry → List TypeEntry → ℕ → TypeEntry → Side → Option ℕ → Type 0
+AddsPart ps es fs n e side r =
+    (t : Ty) (qs xs ys : Types) → Is ps (length ps) e t → InForm t → OwnParts side (t and no_types) qs → Brings qs ys → (In any ys → ⊥) → OpenIn ps es n xs
+    → Opened ps fs (xs then ys) r
 
--- the same of all that the parts of the entries from first on and below end bring, in a union opened at used
-abbrev pub AddsParts : List TypeEntry → List TypeEntry → ℕ → ℕ → ℕ → Side → Option ℕ → Type 0
-AddsParts es fs used first end side r =
-    (ts ps xs : Types) → Run es first (end - first) ts → AllInForm ts → OwnParts side ts ps → Brings ps xs → (In any xs → ⊥)
-    → Opened es fs used xs r
+-- the slots fs begin with an open union of all that the parts of the entries hs bring, or there is no room for it
+abbrev pub AddsParts : List TypeEntry → List TypeEntry → List TypeEntry → Side → Option ℕ → Type 0
+AddsParts ps fs hs side r =
+    (ts qs xs : Types) → Hold ps (length ps) hs ts → AllInForm ts → OwnParts side ts qs → Brings qs xs → (In any xs → ⊥)
+    → Opened ps fs xs r
 
 -- the index i, moved up
 abbrev pub up : ℕ → ℕ → ℕ

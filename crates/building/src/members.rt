@@ -1,10 +1,8 @@
-// Open unions: runs of entries from `first` on, whose parts stand below `first`.
-ghost use Rattle.std.specs.Prelude.{◌≡◌, ◌+◌, ◌<◌, ◌≤◌, length};
-ghost use Rattle.building.specs.Entries.{Adds, AddsAll, Closes, Place, PutIn, SaysIn, Within, entry_rank};
-ghost use Rattle.building.specs.Made.{Kept};
+// Open unions: their members are the first `count` of some slots, and the parts of the members stand in `parts`.
+ghost use Rattle.std.specs.Prelude.{◌≡◌};
+ghost use Rattle.building.specs.Entries.{Adds, AddsAll, Closes, Place, SaysIn, entry_rank};
 
 use crate::equality::same;
-use types::compare::run_below;
 use types::entries::{Root, TypeEntry};
 use types::kinds::{kind_of, rank_of};
 
@@ -18,109 +16,85 @@ fn rank_of_entry(e: TypeEntry) -> usize
     }
 }
 
-// Whether the type e is one of the members of an open union.
-fn has_member(types: &[TypeEntry], first: usize, count: usize, e: TypeEntry) -> bool
-    requires { first + count ≤ length types.now }
-    ensures { SaysIn types.now first count e result }
+// Whether the type e is one of the members.
+fn has_member(parts: &[TypeEntry], members: &[TypeEntry], e: TypeEntry) -> bool
+    ensures { SaysIn parts.now members.now e result }
 {
-    let new = Root {
-        entry: e,
-        used: first,
-    };
-    for i in first..first + count {
-        let member = Root {
-            entry: types[i],
-            used: first,
-        };
-        if same(types, member, new) {
-            return true;
-        }
-    }
-    false
+    let used = parts.len();
+    let new = Root { entry: e, used };
+    members
+        .iter()
+        .any(|&entry| same(parts, Root { entry, used }, new))
 }
 
-// How many members of an open union stand before a new one of this rank.
-fn place_of(types: &[TypeEntry], first: usize, count: usize, rank: usize) -> usize
-    requires { first + count ≤ length types.now }
-    ensures { Place types.now first count rank result }
+// How many members stand before a new one of this rank.
+fn place_of(members: &[TypeEntry], rank: usize) -> usize
+    ensures { Place members.now rank result }
 {
-    // By an index: with `position` the proof does not learn what its closure says of each member.
-    for place in 0..count {
-        let i = first + place;
-        if rank_of_entry(types[i]) > rank {
-            return place;
-        }
-    }
-    count
+    members
+        .iter()
+        .position(|member| rank_of_entry(*member) > rank)
+        .unwrap_or(members.len())
 }
 
-// Puts e in at `place`, and the entries from there on, up to `end`, one further up.
-fn put_in(types: &mut [TypeEntry], place: usize, end: usize, e: TypeEntry)
-    requires { (place ≤ end) × (end < length types.old) }
-    ensures { PutIn types.old types.new place end e }
-{
-    types.copy_within(place..end, place + 1);
-    types[place] = e;
-}
-
-// Adds the type e to an open union of `count` members, unless it is one of them, and answers how many there are then.
+// Adds the type e to an open union, unless it is one of the members, and answers how many there are then.
 // None where there is no room for it.
-fn add_member(types: &mut [TypeEntry], first: usize, count: usize, e: TypeEntry) -> Option<usize>
-    requires { first + count ≤ length types.old }
-    ensures adds { Adds types.old types.new first count e result }
-    ensures kept { Kept types.old types.new first }
-    ensures within { Within types.new first result }
+fn add_member(
+    parts: &[TypeEntry],
+    slots: &mut [TypeEntry],
+    count: usize,
+    e: TypeEntry,
+) -> Option<usize>
+    ensures { Adds parts.now slots.old slots.new count e result }
 {
-    if has_member(types, first, count, e) {
+    let members = slots.get(..count)?;
+    if has_member(parts, members, e) {
         return Some(count);
     }
-    let place = place_of(types, first, count, rank_of_entry(e));
-    let end = first + count;
-    if end == types.len() {
+    let place = place_of(members, rank_of_entry(e));
+    if count == slots.len() {
         return None;
     }
-    put_in(types, first + place, end, e);
+    slots.copy_within(place..count, place + 1);
+    slots[place] = e;
     Some(count + 1)
 }
 
 // Adds the type e, or its members where it is a union, to an open union.
-pub fn add_type(types: &mut [TypeEntry], first: usize, count: usize, e: TypeEntry) -> Option<usize>
-    requires { first + count ≤ length types.old }
-    ensures adds { AddsAll types.old types.new first count e result }
-    ensures kept { Kept types.old types.new first }
-    ensures within { Within types.new first result }
+pub fn add_type(
+    parts: &[TypeEntry],
+    slots: &mut [TypeEntry],
+    count: usize,
+    e: TypeEntry,
+) -> Option<usize>
+    ensures { AddsAll parts.now slots.old slots.new count e result }
 {
-    let TypeEntry::Union {
-        first: from,
-        count: size,
-    } = e
-    else {
-        return add_member(types, first, count, e);
+    let TypeEntry::Union { first, count: size } = e else {
+        return add_member(parts, slots, count, e);
     };
-    if !run_below(from, size, first) {
-        return None;
-    }
+    let end = first.checked_add(size)?;
     let mut total = count;
-    for k in 0..size {
-        let member = types[from + k];
-        total = add_member(types, first, total, member)?;
+    for member in parts.get(first..end)? {
+        total = add_member(parts, slots, total, *member)?;
     }
     Some(total)
 }
 
 // Closes an open union: its one member, or a union of several.
-pub fn close(types: &[TypeEntry], first: usize, count: usize) -> Root
-    requires { first + count ≤ length types.now }
-    ensures { Closes types.now first count result }
+#[tactic(auto, using(crate::proofs::Closed::closes_more))]
+pub fn close(parts: &[TypeEntry], members: &[TypeEntry]) -> Root
+    ensures { Closes parts.now members.now result }
 {
-    if count == 1 {
-        return Root {
-            entry: types[first],
-            used: first,
-        };
-    }
-    Root {
-        entry: TypeEntry::Union { first, count },
-        used: first + count,
+    let used = parts.len();
+    let count = members.len();
+    match members {
+        [member] => Root {
+            entry: *member,
+            used,
+        },
+        _ => Root {
+            entry: TypeEntry::Union { first: used, count },
+            used: used + count,
+        },
     }
 }

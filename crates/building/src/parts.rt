@@ -1,6 +1,5 @@
 // The head part and the tail part of a type.
-ghost use Rattle.std.specs.Prelude.{◌+◌, ◌≤◌, length};
-ghost use Rattle.building.specs.Entries.{AddsPart, AddsParts, SaysAnyPart, SaysPartAny, Within};
+ghost use Rattle.building.specs.Entries.{AddsPart, AddsParts, SaysAnyPart, SaysPartAny};
 ghost use Rattle.building.specs.Made.{GivesPart, Kept, MakesPart};
 
 use crate::members::{add_type, close};
@@ -54,42 +53,40 @@ fn has_any_part(types: &[TypeEntry], run: Range<usize>, side: Side) -> bool
     false
 }
 
-// Adds the part on a side of the type e, if it has one, to an open union of `count` members.
+// Adds the part on a side of the type e, if it has one, to an open union.
 fn add_part(
-    types: &mut [TypeEntry],
-    first: usize,
+    parts: &[TypeEntry],
+    slots: &mut [TypeEntry],
     count: usize,
     e: TypeEntry,
     side: Side,
 ) -> Option<usize>
-    requires { first + count ≤ length types.old }
-    ensures adds { AddsPart types.old types.new first count e side result }
-    ensures kept { Kept types.old types.new first }
-    ensures within { Within types.new first result }
+    ensures { AddsPart parts.now slots.old slots.new count e side result }
 {
     let a = Root {
         entry: e,
-        used: first,
+        used: parts.len(),
     };
-    match own_part(types, a, side) {
-        Some(part) => add_type(types, first, count, part),
+    match own_part(parts, a, side) {
+        Some(part) => add_type(parts, slots, count, part),
         None => Some(count),
     }
 }
 
-// Opens a union at `used` and adds the parts of the types in a run of entries.
-fn add_parts(types: &mut [TypeEntry], used: usize, run: Range<usize>, side: Side) -> Option<usize>
-    requires { (run.start ≤ run.end) × (run.end ≤ used) × (used ≤ length types.old) }
-    ensures adds { AddsParts types.old types.new used run.start run.end side result }
-    ensures kept { Kept types.old types.new used }
-    ensures within { Within types.new used result }
+// Opens a union and adds the parts of some types.
+fn add_parts(
+    parts: &[TypeEntry],
+    slots: &mut [TypeEntry],
+    members: &[TypeEntry],
+    side: Side,
+) -> Option<usize>
+    ensures { AddsParts parts.now slots.new members.now side result }
 {
-    let mut total = 0;
-    for k in run {
-        let member = types[k];
-        total = add_part(types, used, total, member, side)?;
+    let mut count = 0;
+    for member in members {
+        count = add_part(parts, slots, count, *member, side)?;
     }
-    Some(total)
+    Some(count)
 }
 
 // The part on a side of a type: of a union, the union of the parts of its members. None where it has no such part.
@@ -99,9 +96,6 @@ pub fn part_of(types: &mut [TypeEntry], a: Root, side: Side) -> Result<Option<Ro
     ensures kept { Kept types.old types.new a.used }
 {
     let used = a.used;
-    if used > types.len() {
-        return Err(NoRoom);
-    }
     let TypeEntry::Union { first, count: size } = a.entry else {
         return match own_part(types, a, side) {
             Some(entry) => Ok(Some(Root { entry, used })),
@@ -117,9 +111,18 @@ pub fn part_of(types: &mut [TypeEntry], a: Root, side: Side) -> Result<Option<Ro
             used,
         }));
     }
-    match add_parts(types, used, start..end, side) {
-        Some(0) => Ok(None),
-        Some(count) => Ok(Some(close(types, used, count))),
-        None => Err(NoRoom),
+    let Some((parts, slots)) = types.split_at_mut_checked(used) else {
+        return Err(NoRoom);
+    };
+    let parts = &*parts;
+    let Some(count) = add_parts(parts, slots, &parts[start..end], side) else {
+        return Err(NoRoom);
+    };
+    let Some(members) = slots.get(..count) else {
+        return Err(NoRoom);
+    };
+    if members.is_empty() {
+        return Ok(None);
     }
+    Ok(Some(close(parts, members)))
 }

@@ -24,7 +24,8 @@ pub fn union_of_two(
             used,
         });
     }
-    let some = add_type(types, used, 0, a)?;
-    let count = add_type(types, used, some, b)?;
-    Some(close(types, used, count))
+    let (parts, slots) = types.split_at_mut(used);
+    let some = add_type(parts, slots, 0, a)?;
+    let count = add_type(parts, slots, some, b)?;
+    Some(close(parts, slots.get(..count)?))
 }

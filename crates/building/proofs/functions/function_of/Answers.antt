@@ -1,6 +1,7 @@
 use Rattle.std.proofs.Common.{arith}
 use Rattle.std.proofs.lemmas.Grind.{common_steps}
-use Rattle.building.proofs.FunctionsMade.{hold_count, function_written}
+use Rattle.building.proofs.Held.{hold_count}
+use Rattle.building.proofs.FunctionsMade.{function_written}
 use Rattle.building.proofs.functions.function_of.Goals as goal
 
 pub returns-then-end-types-clause-made : goal.returns-then-end-types-clause-made

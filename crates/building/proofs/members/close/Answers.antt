@@ -1,8 +1,6 @@
-use Rattle.building.proofs.Closed.{closes_one, closes_more}
+use Rattle.std.proofs.Common.{arith}
+use Rattle.building.proofs.Closed.{closes_one}
 use Rattle.building.proofs.members.close.Goals as goal
 
-pub returns-then-count-eq1 : goal.returns-then-count-eq1
-returns-then-count-eq1 c = closes_one _ _ _ c.requires c.if-count-eq1.true
-
-pub returns : goal.returns
-returns c = closes_more _ _ _ c.requires c.if-count-eq1.false
+pub returns-in-len1 : goal.returns-in-len1
+returns-in-len1 c = closes_one _ _ (omega (arith, c.in-len1))
