@@ -96,6 +96,9 @@ pub fn part_of(types: &mut [TypeEntry], a: Root, side: Side) -> Result<Option<Ro
     ensures kept { Kept types.old types.new a.used }
 {
     let used = a.used;
+    if used > types.len() {
+        return Err(NoRoom);
+    }
     let TypeEntry::Union { first, count: size } = a.entry else {
         return match own_part(types, a, side) {
             Some(entry) => Ok(Some(Root { entry, used })),
