@@ -38,7 +38,8 @@ struct Row {
 
 use Verdict::{ByParts as P, Meet as M, Never as N};
 
-// Rows and columns in rank order.
+// Rows and columns in rank order. An array of rows, indexed by two kinds, as the project asks for; no match says it at a
+// glance.
 const MEETING: [Row; 12] = [
     Row {
         cells: [M, M, N, N, N, N, N, N, N, N, N, N],
@@ -107,13 +108,14 @@ pub fn kind_of(e: TypeEntry) -> Option<Kind>
     ensures { result ≡ entry_kind e }
 {
     match e {
-        TypeEntry::Unused => None,
-        TypeEntry::Any => None,
+        TypeEntry::Unused
+        | TypeEntry::Any
+        | TypeEntry::CodeUnit(_)
+        | TypeEntry::Union { .. } => None,
         TypeEntry::Number => Some(Kind::Number),
         TypeEntry::NumberLiteral { .. } => Some(Kind::NumberLiteral),
         TypeEntry::String => Some(Kind::String),
         TypeEntry::StringLiteral { .. } => Some(Kind::StringLiteral),
-        TypeEntry::CodeUnit(_) => None,
         TypeEntry::Boolean => Some(Kind::Boolean),
         TypeEntry::True => Some(Kind::True),
         TypeEntry::False => Some(Kind::False),
@@ -122,6 +124,5 @@ pub fn kind_of(e: TypeEntry) -> Option<Kind>
         TypeEntry::Function { .. } => Some(Kind::Function),
         TypeEntry::Pair { .. } => Some(Kind::Pair),
         TypeEntry::List { .. } => Some(Kind::List),
-        TypeEntry::Union { .. } => None,
     }
 }

@@ -15,6 +15,7 @@ pub fn meets(types: &[TypeEntry], a: Root, b: Root) -> bool
     if a.used > types.len() || b.used > types.len() {
         return false;
     }
+    // Not `is_some_and`: its closure would call back into this recursion, and such a closure gets no proof.
     match (a.entry, b.entry) {
         (TypeEntry::Union { first, count }, _) => match a.run(first, count) {
             Some(members) => some_meets(types, members, b),
