@@ -9,6 +9,7 @@ use Rattle.lexer.specs.declared.kinds.Kind.TheVariants as kind
 use Rattle.lexer.specs.Sizes.{Small}
 use Rattle.lexer.specs.Reading.{Why, no_token, too_large, Ending, Lexes, done, refused, token}
 use Rattle.lexer.specs.declared.reasons.Reason.{Reason}
+use Rattle.lexer.proofs.Decodings.{apart}
 use Rattle.lexer.proofs.Firsts.{first, opening, token_some}
 use Rattle.lexer.proofs.Pieces.{not_blank}
 
@@ -40,9 +41,6 @@ gap_once bs _ _ (more {n = n} {m = a} p g) (more {n = k} {m = b} q h) =
     let e = piece_once bs n k p q in
     let r = gap_once (drop n bs) a b g (subst (λ i. Gap (drop i bs) b) (sym e) h) in
     omega arith
-
-apart : {A : Type 0} → ◌≡◌ {A = ℕ} 0 1 → A
-apart e = absurd (omega arith)
 
 -- a text is a token of one kind
 same_kind : (k j : Kind) (t : List ℕ) → Spelled k t → Spelled j t → opening k ≡ opening j → k ≡ j

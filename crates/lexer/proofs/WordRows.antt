@@ -5,9 +5,10 @@ use Rattle.std.specs.List.{ContainsAt as Has, AllByRecursion, IsAnyAnswer, Holds
 use Rattle.std.proofs.ByRecursion.{All-get_or, all-has}
 use Rattle.std.proofs.lemmas.Bool.{false≢true, ltb-true}
 use Rattle.std.proofs.lemmas.Bool.Decides.{Decides-eqb}
+use Rattle.std.proofs.lemmas.List.{get_or-map, length-map}
 use Rattle.std.proofs.lemmas.Slice.Eq.{slice_eq-Decides}
 use Rattle.lexer.specs.Marks.{words}
-use Rattle.lexer.proofs.Tables.{texts, has, has_decides, entry, entries}
+use Rattle.lexer.proofs.Tables.{texts, has, has_decides}
 
 abbrev Row : Type 0
 Row = Bor (List (Bor (List ℕ)))
@@ -48,15 +49,15 @@ module _ (table : List Row) (x : List ℕ) (row : ℕ) (is : row ≡ row_of x) (
     in_row true any =
         let d : Bor (List ℕ) = record { ref_ptr = (0, 0); now = [] } in
         let same = (slice_eq-Decides Decides-eqb _ x _ refl).0 (any.2 d) in
-        let t = All-get_or (λ t. has words t ≡ true) (texts w.now) any.0 [] (omega (arith, any.1, entries w.now)) row_only in
-        (λ _. subst (Has words) (entry w.now any.0 d [] any.1 ∙ same) ((has_decides words _).0 t), λ _. refl)
+        let t = All-get_or (λ t. has words t ≡ true) (texts w.now) any.0 [] (omega (arith, any.1, length-map w.now (λ t. t.now))) row_only in
+        (λ _. subst (Has words) (get_or-map (λ t. t.now) w.now any.0 d [] any.1 ∙ same) ((has_decides words _).0 t), λ _. refl)
     in_row false any = (
       λ f. absurd (false≢true f),
       λ h.
           let d : Bor (List ℕ) = record { ref_ptr = (0, 0); now = [] } in
           let at = row_every h in
-          let low : at.0 < length w.now = omega (arith, at.1, entries w.now) in
-          let same = sym (entry w.now at.0 d [] low) ∙ at.2 [] in
+          let low : at.0 < length w.now = omega (arith, at.1, length-map w.now (λ t. t.now)) in
+          let same = sym (get_or-map (λ t. t.now) w.now at.0 d [] low) ∙ at.2 [] in
           sym (any at.0 d (omega arith) low) ∙ (slice_eq-Decides Decides-eqb _ x _ refl).1 same,
     )
 
