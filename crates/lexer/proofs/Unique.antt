@@ -44,31 +44,7 @@ gap_once bs _ _ (more {n = n} {m = a} p g) (more {n = k} {m = b} q h) =
 
 -- a text is a token of one kind
 same_kind : (k j : Kind) (t : List ℕ) → Spelled k t → Spelled j t → opening k ≡ opening j → k ≡ j
-same_kind kind.Name kind.Name t s u o = refl
-same_kind kind.Name kind.Word t s u o = absurd (s.1 u.1)
-same_kind kind.Name kind.Number t s u o = apart (cc)
-same_kind kind.Name kind.String t s u o = apart (cc)
-same_kind kind.Name kind.Mark t s u o = apart (cc)
-same_kind kind.Word kind.Name t s u o = absurd (u.1 s.1)
-same_kind kind.Word kind.Word t s u o = refl
-same_kind kind.Word kind.Number t s u o = apart (cc)
-same_kind kind.Word kind.String t s u o = apart (cc)
-same_kind kind.Word kind.Mark t s u o = apart (cc)
-same_kind kind.Number kind.Name t s u o = apart (cc)
-same_kind kind.Number kind.Word t s u o = apart (cc)
-same_kind kind.Number kind.Number t s u o = refl
-same_kind kind.Number kind.String t s u o = apart (cc)
-same_kind kind.Number kind.Mark t s u o = apart (cc)
-same_kind kind.String kind.Name t s u o = apart (cc)
-same_kind kind.String kind.Word t s u o = apart (cc)
-same_kind kind.String kind.Number t s u o = apart (cc)
-same_kind kind.String kind.String t s u o = refl
-same_kind kind.String kind.Mark t s u o = apart (cc)
-same_kind kind.Mark kind.Name t s u o = apart (cc)
-same_kind kind.Mark kind.Word t s u o = apart (cc)
-same_kind kind.Mark kind.Number t s u o = apart (cc)
-same_kind kind.Mark kind.String t s u o = apart (cc)
-same_kind kind.Mark kind.Mark t s u o = refl
+same_kind k j t s u o = grind arith
 
 length_once : (bs : List ℕ) (k j : Kind) (n m : ℕ) → TokenAt bs k n → TokenAt bs j m → n ≡ m
 length_once bs k j n m s t = omega (arith, t.longest k n s.within s.spelled, s.longest j m t.within t.spelled)
