@@ -1,7 +1,8 @@
 -- How far digits, a fraction, an exponent and a number reach. Assumes nothing.
 use Rattle.std.proofs.Common.{◌≡◌, ℕ, zero, suc, ◌+◌, ◌-◌, ◌<◌, ◌≤◌, ◌⊎◌, List, [], ◌∷◌, ◌++◌, length, get_or, take, drop, sym, refl, ap, ◌∙◌, subst, inl, inr, ⊎_elim, add_assoc, arith, length-append, length-drop, get_or-drop, get_or-take}
 use Rattle.std.proofs.ByRecursion.{All-from_get_or, All-get_or}
-use Rattle.std.proofs.lemmas.List.{length-take-le, drop-take, take_at, take-take, take-append-drop, drop-drop, get_or-append_right, drop_at}
+use Rattle.std.proofs.Math.Seq.{take-add}
+use Rattle.std.proofs.lemmas.List.{length-take-le, drop-take, take_at, take-take, drop-drop, get_or-append_right, drop_at}
 use Rattle.std.proofs.lemmas.Bool.{cases_lt}
 use Rattle.lexer.specs.Classes.{class}
 use Rattle.lexer.specs.Runs.{Run, Of}
@@ -55,15 +56,12 @@ exponent_cases t (up, down, s) = scale_cases t up down s
 no_bytes : (bs : List ℕ) (m : ℕ) → m ≤ length bs → length (take m bs) ≡ 0 → m ≤ 0
 no_bytes bs m w e = omega (arith, length-take-le m bs w)
 
-at_front : (bs : List ℕ) (m k : ℕ) → k < m → get_or (take m bs) k 0 ≡ get_or bs k 0
-at_front bs m k h = get_or-take m bs k 0 h
-
 none_there : (P : List ℕ → Type 0) (bs : List ℕ) → P [] → ((m : ℕ) → m ≤ length bs → P (take m bs) → m ≤ 0) → Most P bs 0
 none_there P bs p h = record { within = omega arith; is = p; most = h }
 
 byte_of : (bs : List ℕ) (m b : ℕ) → 0 < b → get_or (take m bs) 0 0 ≡ b → get_or bs 0 0 ≡ b
 byte_of bs m b p e =
-    ⊎_elim (λ h. sym (at_front bs m 0 h) ∙ e)
+    ⊎_elim (λ h. sym (get_or-take m bs 0 0 h) ∙ e)
     (λ h. let z : m ≡ 0 = omega arith in let n : 0 ≡ b = ap (λ i. get_or (take i bs) 0 0) (sym z) ∙ e in absurd (omega arith))
     (cases_lt 0 m)
 
@@ -110,7 +108,7 @@ first_digit t d = All-get_or DigitByte t 0 0 d.0 d.1
 
 module _ (bs : List ℕ) (m d : ℕ) (w : m ≤ length bs) where
   second : (j : ℕ) → 0 < j → Digits (drop j (take m bs)) → get_or (take m bs) 1 0 ≡ get_or bs 1 0
-  second j p h = at_front bs m 1 (omega (arith, length-drop j (take m bs), length-take-le m bs w, h.0))
+  second j p h = get_or-take m bs 1 0 (omega (arith, length-drop j (take m bs), length-take-le m bs w, h.0))
 
   digits_reach : (b : ℕ) → Before bs b → Run (Of Digit Digit) (drop b bs) d → ((SignByte (get_or (take m bs) 1 0) × Digits (drop 2 (take m bs))) ⊎ Digits (drop 1 (take m bs))) → Tail b m d
   digits_reach _ (signed s) r (inl t) = tail_digits bs 2 m d w t.1 r
@@ -153,7 +151,7 @@ both_most P Q bs n k p q apart m x y w e px qy =
     let upto = p.most i (omega arith) px' in
     ⊎_elim
     (λ lt. ⊎_elim
-    (λ more. absurd (apart i lt px' y qy more (sym (at_front bs m i (omega arith)) ∙ ap (λ l. get_or l i 0) (sym e) ∙ get_or-append_right x y i i 0 refl (omega arith) ∙ ap (λ j. get_or y j 0) (omega arith))))
+    (λ more. absurd (apart i lt px' y qy more (sym (get_or-take m bs i 0 (omega arith)) ∙ ap (λ l. get_or l i 0) (sym e) ∙ get_or-append_right x y i i 0 refl (omega arith) ∙ ap (λ j. get_or y j 0) (omega arith))))
     (λ nil. omega arith)
     (cases_lt 0 (length y)))
     (λ ge.
@@ -184,10 +182,6 @@ tail_first : (t : List ℕ) → TailText t → 0 < length t → (get_or t 0 0 �
 tail_first _ (tail fs es whole x) h = inr (exponent_first es x h)
 tail_first _ (tail fs es (dot d) x) h = inl refl
 
-split_take : (a b : ℕ) (xs : List ℕ) → take (a + b) xs ≡ take a xs ++ take b (drop a xs)
-split_take a b xs =
-    sym (take-append-drop a (take (a + b) xs)) ∙ ap (λ l. l ++ drop a (take (a + b) xs)) (take-take a (a + b) xs (omega arith)) ∙ ap (λ l. take a xs ++ l) (drop-take a b xs)
-
 module _ (bs : List ℕ) (w f e : ℕ) (some-digits : 0 < w) (r : Run (Of Digit Digit) bs w) (p : Most Fraction (drop w bs) f) (q : Most Exponent (drop (w + f) bs) e) where
   q' : Most Exponent (drop f (drop w bs)) e
   q' = subst (λ l. Most Exponent l e) (sym (drop-drop f w bs)) q
@@ -195,13 +189,13 @@ module _ (bs : List ℕ) (w f e : ℕ) (some-digits : 0 < w) (r : Run (Of Digit 
   tail_upto : (m : ℕ) (t : List ℕ) → m ≤ length (drop w bs) → t ≡ take m (drop w bs) → TailText t → m ≤ f + e
   tail_upto m _ h same (tail fs es y x) =
       both_most Fraction Exponent (drop w bs) f e p q'
-      (λ i lt have z ez some_bytes eq. fraction_byte _ p.is i (omega (arith, length-take-le f (drop w bs) p.within)) (at_front (drop w bs) f i lt ∙ eq ∙ exponent_first z ez some_bytes))
+      (λ i lt have z ez some_bytes eq. fraction_byte _ p.is i (omega (arith, length-take-le f (drop w bs) p.within)) (get_or-take f (drop w bs) i 0 lt ∙ eq ∙ exponent_first z ez some_bytes))
       m fs es h same y x
 
   tail_most : Most TailText (drop w bs) (f + e)
   tail_most = record {
     within = omega (arith, p.within, q'.within, length-drop f (drop w bs));
-    is = subst TailText (sym (split_take f e (drop w bs))) (tail _ _ p.is q'.is);
+    is = subst TailText (sym (take-add f e (drop w bs))) (tail _ _ p.is q'.is);
     most = λ m h t. tail_upto m _ h refl t;
   }
 
@@ -222,7 +216,7 @@ module _ (bs : List ℕ) (w f e : ℕ) (some-digits : 0 < w) (r : Run (Of Digit 
       subst (Most NumberText bs) (sym (add_assoc w f e))
       (record {
         within = omega (arith, r.within, tail_most.within, length-drop w bs);
-        is = subst NumberText (sym (split_take w (f + e) bs ∙ ap (λ l. take w bs ++ l) (split_take f e (drop w bs)))) (_, _, _, amount _ _ _ _ _ digits_longest.is p.is q'.is.2);
+        is = subst NumberText (sym (take-add w (f + e) bs ∙ ap (λ l. take w bs ++ l) (take-add f e (drop w bs)))) (_, _, _, amount _ _ _ _ _ digits_longest.is p.is q'.is.2);
         most = λ m h t. number_upto m _ h refl t;
       })
 

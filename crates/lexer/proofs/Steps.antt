@@ -1,10 +1,8 @@
 -- One step of reading. Assumes nothing.
-use Rattle.std.proofs.Common.{◌≡◌, ℕ, ◌+◌, ◌-◌, ◌<◌, ◌≤◌, ◌⊎◌, List, length, take, drop, Some, None, Ok, Err, Option, Result, sym, ap, ◌∙◌, subst, inl, inr, ⊎_elim, arith, length-drop}
-use Rattle.std.proofs.lemmas.List.{length-take-le, take_rest, drop-drop}
-use Rattle.std.proofs.lemmas.Bool.{cases_lt}
+use Rattle.std.proofs.Common.{◌≡◌, ℕ, ◌+◌, ◌-◌, ◌<◌, ◌≤◌, List, length, take, drop, Some, None, Ok, Err, Option, Result, sym, ap, ◌∙◌, subst, arith, length-drop}
+use Rattle.std.proofs.lemmas.List.{take_rest, drop-drop}
 use Rattle.std.specs.Option.{ok_or}
 use Rattle.lexer.specs.Gaps.{Gap}
-use Rattle.lexer.specs.Tokens.{TokenAt}
 use Rattle.lexer.specs.Sizes.{Small}
 use Rattle.lexer.specs.Founds.{FoundAt}
 use Rattle.lexer.specs.Reading.{no_token, too_large, Why, Given, Stopped, Finished, Reads}
@@ -23,14 +21,6 @@ module _ (sheet : List ℕ) (at g : ℕ) (l r : List ℕ) (before : l ≡ drop a
   past : Gap (drop at sheet) g
   past = subst (λ x. Gap x g) before gap
 
-  pub place_fits : (at + g ≤ at) ⊎ (at + g ≤ length sheet)
-  place_fits =
-      let left : g ≤ length sheet - at = omega (arith, ap length before, length-drop at sheet) in
-      ⊎_elim (λ h. inr (omega arith)) (λ h. inl (omega arith)) (cases_lt at (length sheet))
-
-  pub finishes : length r ≡ 0 → Finished sheet at
-  finishes e = record { gap = g; past = past; all = omega (arith, ap length after, length-drop (at + g) sheet) }
-
   pub stops : (e : Refusal) → e.place ≡ at + g → Why r e.reason → Stopped sheet at e
   stops e p w = record { gap = g; past = past; place = p; why = subst (λ x. Why x e.reason) after w }
 
@@ -40,19 +30,6 @@ module _ (sheet : List ℕ) (at g : ℕ) (l r : List ℕ) (before : l ≡ drop a
 
   pub large_found : (o : Option Found) (t : Found) (e : Refusal) → FoundAt r o → o ≡ Some t → (Small t.kind (take t.len r) → ⊥) → e.reason ≡ LargeToken → e.place ≡ at + g → Stopped sheet at e
   large_found o t e f is large w p = stops e p (subst (Why r) (sym w) (too_large (subst (FoundAt r) is f) large))
-
-  pub gives : (t : Token) (n next : ℕ) → t.at ≡ at + g → TokenAt r t.kind n → Small t.kind t.text.now → t.text.now ≡ take n r → next ≡ at + g + n → Given sheet at t next
-  gives t n next p k s e o =
-      let long : length t.text.now ≡ n = ap length e ∙ length-take-le n r k.within in
-      record {
-        gap = g;
-        past = past;
-        place = p;
-        token = subst (λ x. TokenAt x t.kind (length t.text.now)) after (subst (TokenAt r t.kind) (sym long) k);
-        small = s;
-        text = e ∙ ap (λ x. take n x) after ∙ ap (λ i. take i (drop (at + g) sheet)) (sym long);
-        on = o ∙ ap (λ i. at + g + i) (sym long);
-      }
 
 -- what a step gave
 

@@ -9,6 +9,7 @@ use Rattle.lexer.specs.declared.kinds.Kind.TheVariants as kind
 use Rattle.lexer.specs.Sizes.{Small}
 use Rattle.lexer.specs.Reading.{Why, no_token, too_large, Ending, Lexes, done, refused, token}
 use Rattle.lexer.specs.declared.reasons.Reason.{Reason}
+use Rattle.lexer.proofs.Decodings.{apart}
 use Rattle.lexer.proofs.Firsts.{first, opening, token_some}
 use Rattle.lexer.proofs.Pieces.{not_blank}
 
@@ -41,36 +42,9 @@ gap_once bs _ _ (more {n = n} {m = a} p g) (more {n = k} {m = b} q h) =
     let r = gap_once (drop n bs) a b g (subst (λ i. Gap (drop i bs) b) (sym e) h) in
     omega arith
 
-apart : {A : Type 0} → ◌≡◌ {A = ℕ} 0 1 → A
-apart e = absurd (omega arith)
-
 -- a text is a token of one kind
 same_kind : (k j : Kind) (t : List ℕ) → Spelled k t → Spelled j t → opening k ≡ opening j → k ≡ j
-same_kind kind.Name kind.Name t s u o = refl
-same_kind kind.Name kind.Word t s u o = absurd (s.1 u.1)
-same_kind kind.Name kind.Number t s u o = apart (cc)
-same_kind kind.Name kind.String t s u o = apart (cc)
-same_kind kind.Name kind.Mark t s u o = apart (cc)
-same_kind kind.Word kind.Name t s u o = absurd (u.1 s.1)
-same_kind kind.Word kind.Word t s u o = refl
-same_kind kind.Word kind.Number t s u o = apart (cc)
-same_kind kind.Word kind.String t s u o = apart (cc)
-same_kind kind.Word kind.Mark t s u o = apart (cc)
-same_kind kind.Number kind.Name t s u o = apart (cc)
-same_kind kind.Number kind.Word t s u o = apart (cc)
-same_kind kind.Number kind.Number t s u o = refl
-same_kind kind.Number kind.String t s u o = apart (cc)
-same_kind kind.Number kind.Mark t s u o = apart (cc)
-same_kind kind.String kind.Name t s u o = apart (cc)
-same_kind kind.String kind.Word t s u o = apart (cc)
-same_kind kind.String kind.Number t s u o = apart (cc)
-same_kind kind.String kind.String t s u o = refl
-same_kind kind.String kind.Mark t s u o = apart (cc)
-same_kind kind.Mark kind.Name t s u o = apart (cc)
-same_kind kind.Mark kind.Word t s u o = apart (cc)
-same_kind kind.Mark kind.Number t s u o = apart (cc)
-same_kind kind.Mark kind.String t s u o = apart (cc)
-same_kind kind.Mark kind.Mark t s u o = refl
+same_kind k j t s u o = grind arith
 
 length_once : (bs : List ℕ) (k j : Kind) (n m : ℕ) → TokenAt bs k n → TokenAt bs j m → n ≡ m
 length_once bs k j n m s t = omega (arith, t.longest k n s.within s.spelled, s.longest j m t.within t.spelled)

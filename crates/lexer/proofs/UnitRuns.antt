@@ -1,6 +1,7 @@
 -- The units that a decoder gives, one call after another, beside those of a list. Assumes nothing.
 use Rattle.std.proofs.Common.{true, false, Bool, eqb, Decides, MatchOption, IfSome, length, ◌≡◌, ℕ, List, [], ◌∷◌, ◌++◌, get_or, drop, Option, Some, None, Iter, sym, refl, ap, ◌∙◌, subst}
 use Rattle.std.proofs.lemmas.Bool.{false≢true, eqb-true, eq-eqb}
+use Rattle.std.proofs.lemmas.Option.{none-some}
 use Rattle.std.proofs.lemmas.List.{append_cancel_left, nil_from_length}
 use Rattle.std.specs.Iterator.{Yields, ComparesItemsByEq}
 use Rattle.std.specs.Iterator.Adapters.{copied_source, copied_steps}
@@ -13,7 +14,7 @@ use Rattle.lexer.specs.Decoding.{NoUnit, GivesUnit, StringAt, NoString}
 use Rattle.lexer.specs.declared.classes.Class.TheVariants.{Quote}
 use Rattle.lexer.specs.declared.read.Decoder.{Decoder}
 use Rattle.lexer.specs.declared.strings.Quoted.{Quoted}
-use Rattle.lexer.proofs.Decodings.{apart, none_some, after_unit, closes_once, no_more, decodes_once, all_string, other_string, whole_string}
+use Rattle.lexer.proofs.Decodings.{apart, after_unit, closes_once, no_more, decodes_once, all_string, other_string, whole_string}
 
 -- the list begins with what a call gave, or is empty where it gave none
 abbrev Front : {A : Type 0} → Option A → List A → Type 0
@@ -49,7 +50,7 @@ module _ (q : ℕ) (is : class q ≡ Quote) where
 list_first : (ys : List ℕ) (s t : Copied (Iter ℕ)) → Yields (copied_steps iter_steps) s ys t → iter_rest (copied_source s) ≡ ys ++ iter_rest (copied_source t)
 list_first [] s t y = ap (λ d. iter_rest (copied_source d)) y
 list_first (y ∷ ys) s t (j, (Some b, g, e), more_of) = let same : y ≡ b.now = cc in g ∙ ap (λ l. b.now ∷ l) (list_first ys j t more_of) ∙ ap (λ x. x ∷ ys ++ iter_rest (copied_source t)) (sym same)
-list_first (y ∷ ys) s t (j, (None, g, e), more_of) = none_some (sym e)
+list_first (y ∷ ys) s t (j, (None, g, e), more_of) = absurd (none-some _ (sym e))
 
 list_next : (o : Option ℕ) (s t : Copied (Iter ℕ)) → copied_steps iter_steps s o t → Front o (iter_rest (copied_source s))
 list_next o s t (Some b, g, e) = subst (λ p. Front p (iter_rest (copied_source s))) (sym e) (iter_rest (copied_source t), g)

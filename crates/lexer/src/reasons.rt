@@ -29,7 +29,7 @@ pub enum Reason {
 }
 
 impl Reason {
-    // The number by which a refusal is reported.
+    // The number by which a refusal is reported, in C and in what the programs print.
     pub fn number(self) -> u8
         ensures { result ≡ number_of self }
     {

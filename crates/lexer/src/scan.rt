@@ -7,7 +7,6 @@ ghost use Rattle.lexer.specs.Tallies.{Breaks, Tallied};
 use crate::read::{Reader, Token};
 use crate::reasons::Reason;
 use crate::refusal::Refusal;
-use crate::runs::byte_at;
 
 const SHEET_LIMIT: usize = 16384;
 
@@ -35,7 +34,7 @@ struct Tally {
 fn has_feed(sheet: &[u8], from: usize, to: usize) -> bool
     ensures { Decides result (FeedBetween sheet.now from to) }
 {
-    (from..to).any(|i| byte_at(sheet, i) == b'\n')
+    sheet.iter().take(to).skip(from).any(|b| *b == b'\n')
 }
 
 impl Tally {
