@@ -18,4 +18,5 @@ pub mod LiteralsMade
 pub mod FunctionsMade
 pub mod CopiesMade
 pub mod Fits
+pub mod Ranges
 pub mod PartsMade
