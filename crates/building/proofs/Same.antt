@@ -273,11 +273,14 @@ module _ {es : List TypeEntry} {first end other stop : ℕ} where
     λ e. refl,
   )
 
-  pub runs_differ : (k : ℕ) → end - first ≡ stop - other → k < end - first → At es first other k false → SaysSameRuns es first end other stop false
-  runs_differ k n lt d up on low high ts us r q = (
-    λ o. absurd (both_ways false refl o),
-    λ e. absurd (runs_apart k r (subst (λ k. Run es other k us) (sym n) q) (omega arith) (omega arith) lt d e),
-  )
+  pub runs_differ : (x y : ℕ) → end - first ≡ stop - other → first ≤ x → x < end → y ≡ other + (x - first) → SaysSameType es x (entry_at es x) y (entry_at es y) false → SaysSameRuns es first end other stop false
+  runs_differ x y n le lt there d up on low high ts us r q =
+      let k = x - first in
+      let here : x ≡ first + k = omega arith in
+      let at : At es first other k false = subst (λ i. SaysSameType es (first + k) (entry_at es (first + k)) i (entry_at es i) false) there (subst (λ i. SaysSameType es i (entry_at es i) y (entry_at es y) false) here d) in (
+        λ o. absurd (both_ways false refl o),
+        λ e. absurd (runs_apart k r (subst (λ m. Run es other m us) (sym n) q) (omega arith) (omega arith) (omega arith) at e),
+      )
 
 -- a run by the indexes where it begins and ends
 pub run_from : {es : List TypeEntry} {first size : ℕ} {ts : Types} (from end : ℕ) → from ≡ first → end ≡ first + size → Run es first size ts → Run es from (end - from) ts

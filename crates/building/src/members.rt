@@ -53,6 +53,7 @@ fn add_member(
         return None;
     }
     slots.copy_within(place..count, place + 1);
+    // By an index: `get_mut` says nothing of what the slots end as.
     slots[place] = e;
     Some(count + 1)
 }
