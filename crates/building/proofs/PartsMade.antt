@@ -12,7 +12,7 @@ use Rattle.types.specs.declared.kinds.Kind.{Kind}
 use Rattle.types.specs.Kinds.{OfKind}
 use Rattle.types.specs.Table.{entry_at, Is, is_any, is_union, Run, run_end, run_more}
 use Rattle.types.proofs.Lower.{run_kept}
-use Rattle.types.proofs.Parts.{entries_Decides}
+use Rattle.types.proofs.Parts.{known, entries_Decides}
 use Rattle.types.specs.contracts.entries.TypeEntryPartialEq.TheImpl.{eq-value}
 use Rattle.types.specs.declared.entries.Root.{Root}
 use Rattle.types.specs.Roots.{root_at}
@@ -27,7 +27,7 @@ use Rattle.building.specs.Entries.{Flat, flat_any, flat_one, flat_members, Open,
 use Rattle.building.specs.Made.{Hold, PartHeld, GivesPart, UnionMade, PartAnswer, MakesPart}
 use Rattle.building.proofs.OneUnion.{brings_one, own_one, own_parts_one, no_own, any_no_kind, union_no_kind}
 use Rattle.building.proofs.InOneForm.{front_or_end, flat_of, flat_brings, union_kinds, first_form, other_forms, members_forms}
-use Rattle.building.proofs.Same.{known, run_from}
+use Rattle.building.proofs.Same.{run_from}
 use Rattle.building.proofs.OneMore.{in_front, at_end, front}
 use Rattle.building.proofs.Held.{next_held, none_after, run_held, hold_count, begun}
 use Rattle.building.proofs.AllMembers.{then_assoc, then_none}
