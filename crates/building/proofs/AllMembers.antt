@@ -8,7 +8,7 @@ use Rattle.types.specs.Table.{entry_at, Is, is_any, is_union}
 use Rattle.building.specs.Unions.{◌then◌, In, in_first}
 use Rattle.building.specs.Entries.{OpenIn, Opened, HasNoRoom, Adds, AddsAll, Flat, flat_any, flat_one, flat_members}
 use Rattle.building.specs.Made.{Hold}
-use Rattle.building.proofs.Same.{known}
+use Rattle.types.proofs.Parts.{known}
 use Rattle.building.proofs.Held.{next_held, run_held, none_after}
 use Rattle.building.proofs.InOneForm.{Kinds, front_or_end}
 use Rattle.building.proofs.OneMore.{in_front, at_end, old_or_new}

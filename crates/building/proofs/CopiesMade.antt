@@ -1,13 +1,14 @@
 -- Types copied from one run of entries to another. Assumes nothing.
-use Rattle.std.proofs.Common.{◌≡◌, ℕ, suc, ◌+◌, ◌-◌, ◌^◌, ◌<◌, ◌≤◌, List, length, set, take, Some, sym, refl, ap, ◌∙◌, subst, ⊎_elim, arith}
+use Rattle.std.proofs.Common.{◌≡◌, ℕ, suc, ◌+◌, ◌-◌, ◌^◌, ◌<◌, ◌≤◌, List, length, set, take, drop, Some, sym, refl, ap, ◌∙◌, subst, ⊎_elim, arith}
 use borrow.Rule.Slice.PartMut.{put_mid}
+use Rattle.std.proofs.lemmas.Grind.{common_steps}
 use Rattle.std.proofs.lemmas.Bool.{cases_eq}
 use Rattle.std.proofs.lemmas.List.{get_or-take, length-take}
 use Rattle.types.specs.declared.entries.TypeEntry.{TypeEntry}
 use Rattle.types.specs.Types.{Ty, Types}
 use Rattle.types.specs.Table.{entry_at, UnitsAt, Is, is_any, is_number, is_number_literal, is_string, is_string_literal, is_boolean, is_true, is_false, is_undefined, is_null, is_function, is_pair, is_list, is_union, Run, run_end, run_more}
 use Rattle.types.specs.declared.entries.Root.{Root}
-use Rattle.building.specs.Entries.{up, shift}
+use Rattle.building.specs.Entries.{Puts, up, shift}
 use Rattle.building.proofs.Written.{elsewhere, here, put_long, put_holds}
 use Rattle.building.specs.Made.{MakesCopy, StandsFor, a_type, a_unit}
 
@@ -87,17 +88,24 @@ shift_one xs ys by i {x} lt e p = (
   λ j l. elsewhere xs i j x (λ q. omega arith) ∙ p.1 j (omega arith),
 )
 
--- the copied entries written in
-pub copy_written : (es others ps qs : List TypeEntry) (used end : ℕ) (m : Root) {e : TypeEntry} → end ≡ used + m.used → end ≤ length es → end < 2 ^ 64 → m.used ≤ length others → qs ≡ take m.used others → length ps ≡ length qs → ((j : ℕ) → j < length ps → entry_at ps j ≡ shift used (entry_at qs j)) → e ≡ shift used m.entry → MakesCopy es (put_mid used (end - used) es ps) used others m (Some (record { entry = e; used = end }))
-copy_written es others ps qs used end m {e} at-end room fit all is long moved top =
+-- the entries put in, and moved up there
+pub copy_written : (es gs others ps qs : List TypeEntry) (used end : ℕ) (m : Root) {e : TypeEntry} → end < 2 ^ 64 → m.used ≤ length others → qs ≡ take m.used others → Puts gs used qs (Some end)
+    → length ps ≡ length (take (end - used) (drop used gs)) → ((j : ℕ) → j < length ps → entry_at ps j ≡ shift used (entry_at (take (end - used) (drop used gs)) j))
+    → e ≡ shift used m.entry → MakesCopy es (put_mid used (end - used) gs ps) used others m (Some (record { entry = e; used = end }))
+copy_written es gs others ps qs used end m {e} fit all is p long moved top =
+    let n = end - used in
+    let fs = put_mid used n gs ps in
     let size : length qs ≡ m.used = ap length is ∙ simp length-take (omega arith) in
-    let n : length ps ≡ end - used = omega arith in
-    let low : used ≤ length es = omega arith in
-    let whole = put_long es ps used (end - used) (omega arith) n in
+    let at-end : end ≡ used + m.used = omega (arith, p.0) in
+    let room : end ≤ length gs = p.1 in
+    let same : length ps ≡ n = long ∙ grind (arith, common_steps) in
+    let whole = put_long gs ps used n (omega arith) same in
     subst
-    (λ k. MakesCopy es (put_mid used (end - used) es ps) used others m (Some (record { entry = e; used = k })))
+    (λ k. MakesCopy es fs used others m (Some (record { entry = e; used = k })))
     (sym at-end)
-    (copy_made es (put_mid used (end - used) es ps) others used m (omega arith) (omega arith) top (λ j lt.
+    (copy_made es fs others used m (omega arith) (omega arith) top (λ j lt.
+    let low : used ≤ length gs = omega arith in
     let l : j < length ps = omega arith in
+    let here : entry_at (take n (drop used gs)) j ≡ entry_at gs (used + j) = grind (arith, common_steps) in
     let from : entry_at qs j ≡ entry_at others j = ap (λ xs. entry_at xs j) is ∙ rw get_or-take refl in
-    put_holds es ps used (end - used) j low l ∙ moved j l ∙ ap (shift used) from))
+    put_holds gs ps used n j low l ∙ moved j l ∙ ap (shift used) (here ∙ p.2 j (omega arith) ∙ from)))

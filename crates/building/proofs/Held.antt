@@ -1,5 +1,5 @@
 -- Types that entries in hand hold. Assumes nothing.
-use Rattle.std.proofs.Common.{◌≡◌, ℕ, zero, suc, ◌+◌, ◌<◌, ◌≤◌, List, [], ◌∷◌, ◌++◌, length, get_or, take, drop, sym, refl, ap, ◌∙◌, subst, add-zero, arith}
+use Rattle.std.proofs.Common.{◌≡◌, ℕ, zero, suc, ◌+◌, ◌<◌, ◌≤◌, List, [], ◌∷◌, ◌++◌, length, get_or, take, drop, sym, refl, ap, ◌∙◌, subst, add-zero, arith, drop-cons}
 use Rattle.std.proofs.lemmas.Grind.{common_steps}
 use Rattle.types.specs.declared.entries.TypeEntry.{TypeEntry}
 use Rattle.types.specs.declared.entries.TypeEntry.TheVariants.{Unused}
@@ -22,15 +22,10 @@ hold_run {es} {fs} used i a le at (hold_more {e} {t} x h) =
     (hold_run used (suc i) a (omega arith) (λ j lt. let f : suc i + j ≡ i + suc j = omega arith in ap (λ y. entry_at fs y) f ∙ at (suc j) (omega arith)) h)
 
 -- and the entries of a run hold its types
-pub next_entry : (es : List TypeEntry) (k : ℕ) → k < length es → drop k es ≡ entry_at es k ∷ drop (suc k) es
-next_entry [] k lt = absurd (omega arith)
-next_entry (e ∷ es) zero lt = refl
-next_entry (e ∷ es) (suc k) lt = next_entry es k (omega arith)
-
 pub run_held : {es : List TypeEntry} {first size : ℕ} {ts : Types} (n : ℕ) → first + size ≤ n → n ≤ length es → Run es first size ts → Hold es n (take size (drop first es)) ts
 run_held n low le run_end = hold_none
 run_held {es} n low le (run_more {first} {size} {t} {ts} x r) =
-    subst (λ z. Hold es n (take (suc size) z) (t and ts)) (sym (next_entry es first (omega arith))) (hold_more (higher n (omega arith) x) (run_held n (omega arith) le r))
+    subst (λ z. Hold es n (take (suc size) z) (t and ts)) (sym (drop-cons es first Unused (omega arith))) (hold_more (higher n (omega arith) x) (run_held n (omega arith) le r))
 
 -- one of them, and those after it
 next_of : {es : List TypeEntry} {n : ℕ} {e : TypeEntry} {hs : List TypeEntry} {ms : Types} → Hold es n (e ∷ hs) ms → (t : Ty) × (ts : Types) × (ms ≡ (t and ts)) × Is es n e t × Hold es n hs ts
@@ -38,7 +33,7 @@ next_of (hold_more {t} {ts} x h) = (t, ts, refl, x, h)
 
 pub next_held : {es : List TypeEntry} {n : ℕ} {ms : Types} (hs : List TypeEntry) (k : ℕ) → k < length hs → Hold es n (drop k hs) ms → (t : Ty) × (ts : Types) × (ms ≡ (t and ts)) × Is es n (entry_at hs k) t × Hold es n (drop (k + 1) hs) ts
 next_held {es} {n} {ms} hs k lt h =
-    let q = next_of (subst (λ z. Hold es n z ms) (next_entry hs k lt) h) in
+    let q = next_of (subst (λ z. Hold es n z ms) (drop-cons hs k Unused lt) h) in
     let e : suc k ≡ k + 1 = omega arith in
     (q.0, q.1, q.2, q.3, subst (λ j. Hold es n (drop j hs) q.1) e q.4)
 

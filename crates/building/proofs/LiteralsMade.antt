@@ -2,7 +2,7 @@
 use Rattle.std.proofs.Common.{set, ◌≡◌, ℕ, ◌+◌, ◌-◌, ◌%◌, ◌<◌, ◌≤◌, Bool, true, false, cond, not, ◌&&◌, eqb, ltb, ◌⊎◌, List, [], ◌∷◌, length, get_or, drop, ℤ, pos, ◌+ℤ◌, ◌-ℤ◌, Some, None, Option, sym, refl, ap, ◌∙◌, subst, ap₂, inl, inr, ⊎_elim, add-one, arith, length-set, drop-cons}
 use lib.IntN.{+ℤ-neg_ℤ_cancel, -ℤ-+ℤ_cancel}
 use Rattle.std.proofs.lemmas.List.{drop_all}
-use Rattle.std.proofs.lemmas.Bool.{cases_lt, and_parts, ltb-true, lt-ltb, ne_eqb}
+use Rattle.std.proofs.lemmas.Bool.{cases_eq, cases_lt, and_parts, ltb-true, lt-ltb, ne_eqb}
 use Rattle.lexer.specs.Classes.{class}
 use Rattle.lexer.specs.declared.classes.Class.TheVariants.{Quote}
 use Rattle.lexer.specs.declared.decimals.Decimal.{Decimal as Read-decimal}
@@ -17,9 +17,10 @@ use Rattle.types.specs.declared.entries.TypeEntry.TheVariants.{NumberLiteral, St
 use Rattle.types.specs.Values.{Decimal, Text, canonical, is_zero, units16}
 use Rattle.types.specs.Table.{entry_at, is_number_literal, is_string_literal}
 use Rattle.types.proofs.Parts.{same_decimal, same_text}
+use Rattle.types.specs.declared.entries.Root.{Root}
+use Rattle.building.specs.Entries.{Puts}
 use Rattle.building.specs.Made.{Kept, a_unit}
 use Rattle.building.specs.Literals.{Numeral, NumberGiven, GivesNumber, SpelledString, MakesString, LiteralLaws}
-use Rattle.building.proofs.Written.{kept_more, written_more}
 
 -- numbers
 cancel : (x y k : ℤ) → x +ℤ k ≡ y +ℤ k → x ≡ y
@@ -85,39 +86,51 @@ pub record SomeUnits (fs : List TypeEntry) (used : ℕ) (text : List ℕ) (at n 
   pub left : Closes (get_or text 0 0) (drop at text) (drop n us) []
   pub some_of : n ≤ length us
 
--- so do those of each string that the text may be
-pub record Filling (es fs : List TypeEntry) (used : ℕ) (text : List ℕ) (at n : ℕ) : Type 0 where
+-- so do those of each string that the text may be, in the entries from used on and below end
+pub record Filling (es fs : List TypeEntry) (used end : ℕ) (text : List ℕ) (at : ℕ) : Type 0 where
   pub same : Kept es fs used
-  pub room : used + n ≤ length fs
-  pub filled : (us : List ℕ) → Decodes text us → SomeUnits fs used text at n us
+  pub more : used ≤ end
+  pub room : end ≤ length fs
+  pub filled : (us : List ℕ) → Decodes text us → SomeUnits fs used text at (end - used) us
 
-module _ (es fs : List TypeEntry) (used : ℕ) (text s : List ℕ) (same-text-is : s ≡ text) (at n : ℕ) (f : Filling es fs used text at n) where
+module _ (es fs : List TypeEntry) (used end : ℕ) (text s : List ℕ) (same-text-is : s ≡ text) (at : ℕ) (f : Filling es fs used end text at) where
   on_text : (r : Option ℕ) (next : ℕ) → Next (get_or s 0 0) s at r next → Next (get_or text 0 0) text at r next
   on_text r next w = subst (λ l. Next (get_or l 0 0) l at r next) same-text-is w
 
-  one_unit : (u next : ℕ) → Next (get_or s 0 0) s at (Some u) next → (us : List ℕ) → Decodes text us → (n < length us) × (u ≡ get_or us n 0) × Closes (get_or text 0 0) (drop next text) (drop (n + 1) us) []
-  one_unit u next w us d = next_unit (get_or text 0 0) (quote_of text us d) (drop at text) (drop next text) us n u (f.filled us d).left (on_text (Some u) next w).0
+  one_unit : (u next : ℕ) → Next (get_or s 0 0) s at (Some u) next → (us : List ℕ) → Decodes text us → (end - used < length us) × (u ≡ get_or us (end - used) 0) × Closes (get_or text 0 0) (drop next text) (drop (end - used + 1) us) []
+  one_unit u next w us d = next_unit (get_or text 0 0) (quote_of text us d) (drop at text) (drop next text) us (end - used) u (f.filled us d).left (on_text (Some u) next w).0
 
-  pub unit_filled : (u next : ℕ) → used + n < length fs → Next (get_or s 0 0) s at (Some u) next → Filling es (set fs (used + n) (CodeUnit u)) used text next (n + 1)
-  unit_filled u next room w =
-      let long = length-set fs (used + n) (CodeUnit u) in
+  pub unit_filled : (gs : List TypeEntry) (u next after : ℕ) → Puts gs end (CodeUnit u ∷ []) (Some after) → Kept fs gs end → Next (get_or s 0 0) s at (Some u) next → Filling es gs used after text next
+  unit_filled gs u next after p kept w =
+      let more = f.more in
+      let e : end - used + 1 ≡ after - used = omega (arith, p.0) in
       record {
-        same = kept_more es fs used n (CodeUnit u) f.same;
-        room = omega arith;
+        same = λ j lt. kept j (omega arith) ∙ f.same j lt;
+        more = omega (arith, p.0);
+        room = p.1;
         filled = λ us d.
             let o = one_unit u next w us d in
-            record {
-              stand = written_more fs used n (λ k. CodeUnit (get_or us k 0)) room (ap CodeUnit o.1) (f.filled us d).stand;
+            let g = f.filled us d in
+            subst (λ k. SomeUnits gs used text next k us) e (record {
+              stand = λ k lt.
+                  ⊎_elim
+                  (λ q.
+                  let i : used + k ≡ end + 0 = omega arith in
+                  ap (λ z. entry_at gs z) i ∙ p.2 0 (omega arith) ∙ ap CodeUnit (o.1 ∙ ap (λ z. get_or us z 0) (sym q)))
+                  (λ ne. kept (used + k) (omega arith) ∙ g.stand k (omega arith))
+                  (cases_eq k (end - used));
               left = o.2;
               some_of = omega (arith, o.0);
-            };
+            });
       }
 
-  pub string_full : (u next : ℕ) → length fs ≡ length es → length fs ≤ used + n → Next (get_or s 0 0) s at (Some u) next → MakesString es fs used text None
-  string_full u next long full w x d = let o = one_unit u next w x.units d in omega (arith, o.0)
+  pub string_full : (gs : List TypeEntry) (u next : ℕ) {r : Option Root} → r ≡ None → length gs ≡ length es → Puts gs end (CodeUnit u ∷ []) None → Next (get_or s 0 0) s at (Some u) next → MakesString es gs used text r
+  string_full gs u next none long full w = subst (MakesString es gs used text) (sym none) (λ x d. let more = f.more in let o = one_unit u next w x.units d in omega (arith, o.0, full))
 
-  pub string_filled : (next : ℕ) → Next (get_or s 0 0) s at None next → MakesString es fs used text (Some (record { entry = StringLiteral used n; used = used + n }))
+  pub string_filled : (next : ℕ) → Next (get_or s 0 0) s at None next → MakesString es fs used text (Some (record { entry = StringLiteral used (end - used); used = end }))
   string_filled next w x d =
+      let more = f.more in
+      let n = end - used in
       let g = f.filled x.units d in
       let q = get_or text 0 0 in
       let full : length x.units ≤ n =
@@ -126,11 +139,10 @@ module _ (es fs : List TypeEntry) (used : ℕ) (text s : List ℕ) (same-text-is
       (λ le. le)
       (cases_lt n (length x.units)) in
       let some = g.some_of in
-      let room = f.room in
       record {
         holds = is_string_literal (omega arith) (omega arith) (λ k lt. g.stand k (omega arith));
-        more = omega arith;
-        within = room;
+        more = more;
+        within = f.room;
         light = omega arith;
         filled = λ j le lt. let e : j ≡ used + (j - used) = omega arith in a_unit (ap (λ i. entry_at fs i) e ∙ g.stand (j - used) (omega arith));
       }

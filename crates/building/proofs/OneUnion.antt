@@ -48,9 +48,6 @@ one_before (arrives ne i) (arrives_later q r) = q refl
 one_before (arrives_later q r) (arrives ne i) = q refl
 one_before (arrives_later q r) (arrives_later q' r') = one_before r r'
 
-ranks_apart : {j k : Kind} → rank j < rank k → j ≡ k → ⊥
-ranks_apart {j} {k} lt e = let r : rank j ≡ rank k = ap rank e in omega arith
-
 pub precedes_once : {xs : Types} {t u : Ty} → Precedes xs t u → Precedes xs u t → ⊥
 precedes_once (j, k, tj, uk, x) (k', j', uk', tj', y) =
     let e : rank j ≡ rank j' = ap rank (one_kind tj tj') in

@@ -9,7 +9,7 @@ use Rattle.building.specs.declared.parts.Side.TheVariants.{Head, Tail}
 use Rattle.building.specs.HeadsAndTails.{OwnPart, of_any, head_of_pair, tail_of_pair, head_of_list, tail_of_list}
 use Rattle.building.specs.Made.{PartHeld, GivesPart}
 use Rattle.types.proofs.Lower.{higher}
-use Rattle.building.proofs.Same.{known}
+use Rattle.types.proofs.Parts.{known}
 
 pub any_part : {es : List TypeEntry} {n : ℕ} {e : TypeEntry} {side : Side} → e ≡ Any → GivesPart es n e side (Some e)
 any_part {es} {n} {e} {side} is le t h = go (known is h)

@@ -1,6 +1,8 @@
 -- The part of a union. Assumes nothing.
-use Rattle.std.proofs.Common.{◌≡◌, ℕ, zero, suc, ◌+◌, ◌-◌, ◌<◌, ◌≤◌, Bool, true, false, ◌⊎◌, List, ◌++◌, length, take, drop, Some, None, Decides, Option, Ok, Err, sym, refl, ap, ◌∙◌, subst, inl, inr, ⊎_elim, arith}
+use Rattle.std.proofs.Common.{◌≡◌, ℕ, zero, suc, ◌+◌, ◌-◌, ◌<◌, ◌≤◌, Bool, true, false, ◌⊎◌, List, ◌++◌, length, take, drop, Some, None, Decides, Option, Ok, Err, Result, sym, refl, ap, ◌∙◌, subst, inl, inr, ⊎_elim, arith}
 use Rattle.std.specs.List.{slice_range}
+use Rattle.std.specs.Bool.{MatchBool}
+use Rattle.std.specs.Option.{MatchOption, IsSomeAnd, option_eq}
 use Rattle.std.proofs.lemmas.Grind.{common_steps}
 use Rattle.std.proofs.lemmas.Bool.{both_ways}
 use Rattle.types.specs.declared.entries.TypeEntry.{TypeEntry}
@@ -10,6 +12,8 @@ use Rattle.types.specs.declared.kinds.Kind.{Kind}
 use Rattle.types.specs.Kinds.{OfKind}
 use Rattle.types.specs.Table.{entry_at, Is, is_any, is_union, Run, run_end, run_more}
 use Rattle.types.proofs.Lower.{run_kept}
+use Rattle.types.proofs.Parts.{known, entries_Decides}
+use Rattle.types.specs.contracts.entries.TypeEntryPartialEq.TheImpl.{eq-value}
 use Rattle.types.specs.declared.entries.Root.{Root}
 use Rattle.types.specs.Roots.{root_at}
 use Rattle.building.specs.declared.parts.NoRoom.{NoRoom}
@@ -23,7 +27,7 @@ use Rattle.building.specs.Entries.{Flat, flat_any, flat_one, flat_members, Open,
 use Rattle.building.specs.Made.{Hold, PartHeld, GivesPart, UnionMade, PartAnswer, MakesPart}
 use Rattle.building.proofs.OneUnion.{brings_one, own_one, own_parts_one, no_own, any_no_kind, union_no_kind}
 use Rattle.building.proofs.InOneForm.{front_or_end, flat_of, flat_brings, union_kinds, first_form, other_forms, members_forms}
-use Rattle.building.proofs.Same.{known, run_from}
+use Rattle.building.proofs.Same.{run_from}
 use Rattle.building.proofs.OneMore.{in_front, at_end, front}
 use Rattle.building.proofs.Held.{next_held, none_after, run_held, hold_count, begun}
 use Rattle.building.proofs.AllMembers.{then_assoc, then_none}
@@ -141,33 +145,29 @@ run_in {es} {t} (run_more {first} x r) (in_other i) =
 held_as_any : {es : List TypeEntry} {n : ℕ} {t : Ty} → Is es n Any t → t ≡ any
 held_as_any is_any = refl
 
-pub part_any : {es : List TypeEntry} {n : ℕ} {e p : TypeEntry} {side : Side} {r : Bool} → Decides r (p ≡ Any) → GivesPart es n e side (Some p) → SaysPartAny es n e side r
-part_any {es} {n} {p} {side} d f le t h =
+part_known : {es : List TypeEntry} {n : ℕ} {e p : TypeEntry} {side : Side} {r : Bool} → Decides r (p ≡ Any) → GivesPart es n e side (Some p) → SaysPartAny es n e side r
+part_known {es} {n} {p} {side} d f le t h =
     let q = f le t h in (
       λ e. subst (λ x. OwnPart side t x) (held_as_any (known (d.0 e) q.holds)) q.is_part,
       λ o. d.1 (any_held (subst (λ x. Is es n p x) (own_one q.is_part o) q.holds)),
     )
 
-pub no_part_any : {es : List TypeEntry} {n : ℕ} {e : TypeEntry} {side : Side} → GivesPart es n e side None → SaysPartAny es n e side false
-no_part_any f le t h = (λ o. absurd (both_ways false refl o), λ o. absurd (f le t h any o))
+pub part_any : {es : List TypeEntry} {n : ℕ} {e : TypeEntry} {side : Side} {r : Bool} (p : Option TypeEntry) → r ≡ option_eq eq-value.it p (Some Any) → GivesPart es n e side p → SaysPartAny es n e side r
+part_any (Some p) is f = part_known (subst (λ z. Decides z (p ≡ Any)) (sym is) (entries_Decides p Any)) f
+part_any {es} {n} {e} {side} None is f = subst (SaysPartAny es n e side) (sym is) (λ le t h. (λ o. absurd (both_ways false refl o), λ o. absurd (f le t h any o)))
 
--- of a type that the table holds
-pub taken_part : {es : List TypeEntry} {k : ℕ} {side : Side} {r : Bool} (x : Root) → x ≡ root_at es k → SaysPartAny es x.used x.entry side r → SaysPartAny es k (entry_at es k) side r
-taken_part {es} {side} {r} x at f = subst (λ z. SaysPartAny es z.used z.entry side r) at f
-
-pub some_any : (es : List TypeEntry) (first end k : ℕ) (side : Side) → first ≤ k → k < end → SaysPartAny es k (entry_at es k) side true → SaysAnyPart es first end side true
-some_any es first end k side low lt d up room ts r = (
+-- whether some type of a run has such a part
+pub any_part_told : {es : List TypeEntry} {first end : ℕ} {side : Side} (r : Bool) → MatchBool r ((k : ℕ) × (first ≤ k) × (k < end) × SaysPartAny es k (entry_at es k) side true) ((k : ℕ) → first ≤ k → k < end → SaysPartAny es k (entry_at es k) side false) → SaysAnyPart es first end side r
+any_part_told {es} {first} {side} true h up room ts r = (
   λ e.
-      let w = run_at (k - first) r (omega arith) in
-      let i : first + (k - first) ≡ k = omega arith in
-      (w.0, w.1, (d (omega arith) w.0 (subst (λ i. Is es i (entry_at es i) w.0) i w.2)).0 refl),
+      let w = run_at (h.0 - first) r (omega (arith, h.1, h.2)) in
+      let i : first + (h.0 - first) ≡ h.0 = omega (arith, h.1) in
+      (w.0, w.1, (h.3 (omega (arith, h.2)) w.0 (subst (λ i. Is es i (entry_at es i) w.0) i w.2)).0 refl),
   λ o. refl,
 )
-
-pub none_any : (es : List TypeEntry) (first end : ℕ) (side : Side) → ((k : ℕ) → first ≤ k → k < end → SaysPartAny es k (entry_at es k) side false) → SaysAnyPart es first end side false
-none_any es first end side d up room ts r = (
+any_part_told {first} false h up room ts r = (
   λ e. absurd (both_ways false refl e),
-  λ o. let w = run_in r o.1 in let lt = w.1 in absurd (both_ways false refl ((d (first + w.0) (omega arith) (omega arith) (omega arith) o.0 w.2).1 o.2)),
+  λ o. let w = run_in r o.1 in let lt = w.1 in absurd (both_ways false refl ((h (first + w.0) (omega arith) (omega arith) (omega arith) o.0 w.2).1 o.2)),
 )
 
 -- one part added
@@ -322,7 +322,7 @@ all_parted ps fs hs side k n le a ts qs xs r forms o b free =
     subst (λ x. OpenIn ps fs n x) (sym (w.all ∙ ap (λ x. w.done then x) g ∙ then_none w.done)) w.opened
 
 -- the ways out of `part_of`
-pub own_made : (es : List TypeEntry) (used : ℕ) (e p : TypeEntry) (side : Side) → GivesPart es used e side (Some p) → MakesPart es es used e side (Ok (Some (record { entry = p; used = used })))
+own_made : (es : List TypeEntry) (used : ℕ) (e p : TypeEntry) (side : Side) → GivesPart es used e side (Some p) → MakesPart es es used e side (Ok (Some (record { entry = p; used = used })))
 own_made es used e p side f low t h form =
     let q = f low t h in
     let w = some_weight q.part in
@@ -335,8 +335,16 @@ single_part {es} {n} {e} single h (part_union o u) = go refl h
     go : {A : Type 0} {x : TypeEntry} {t : Ty} {ts : Types} → e ≡ x → Is es n x (union t ts) → A
     go p (is_union low r) = absurd (single _ _ p)
 
-pub own_lacking : (es : List TypeEntry) (used : ℕ) (e : TypeEntry) (side : Side) → ((first size : ℕ) → e ≡ Union first size → ⊥) → GivesPart es used e side None → MakesPart es es used e side (Ok None)
+own_lacking : (es : List TypeEntry) (used : ℕ) (e : TypeEntry) (side : Side) → ((first size : ℕ) → e ≡ Union first size → ⊥) → GivesPart es used e side None → MakesPart es es used e side (Ok None)
 own_lacking es used e side single none low t h form p o = none low t h p (single_part single h o)
+
+-- the part of its own that is given, or that there is none
+pub own_answer : (es : List TypeEntry) (used : ℕ) (e : TypeEntry) (side : Side) {is_part : TypeEntry → Root → Type 0} (o : Option TypeEntry) (r : Option Root)
+    → MatchOption o (r ≡ None) (λ x. IsSomeAnd r (is_part x)) → ((x : TypeEntry) (m : Root) → is_part x m → m ≡ record { entry = x; used = used })
+    → ((first size : ℕ) → e ≡ Union first size → ⊥) → GivesPart es used e side o → MakesPart es es used e side (Ok r)
+own_answer es used e side None r is same single f = subst (λ z. MakesPart es es used e side (Ok z)) (sym is) (own_lacking es used e side single f)
+own_answer es used e side (Some x) (Some m) is same single f = subst (λ z. MakesPart es es used e side (Ok (Some z))) (sym (same x m is)) (own_made es used e x side f)
+own_answer es used e side (Some x) None is same single f = elim is [ ]
 
 -- the parts of the members of a union in form
 record PartsOf (es : List TypeEntry) (first size : ℕ) (side : Side) (t : Ty) : Type 0 where
@@ -398,14 +406,14 @@ module _ (es : List TypeEntry) (used first size from end : ℕ) (e : TypeEntry) 
           let n : size ≡ end - from = omega arith in
           subst (λ z. Hold ps (length ps) z ts) (sym part) (subst (λ k. Hold ps (length ps) (take (end - from) (drop k ps)) ts) (sym at) (subst (λ k. Hold ps (length ps) (take k (drop first ps)) ts) n h))
 
-      pub no_room_made : (gs : List TypeEntry) (n : NoRoom) → length fs ≡ length ss → AddsParts ps fs hs side None → MakesPart es gs used e side (Err n)
-      no_room_made gs n same f low t h form = go q.ps refl
+      pub no_room_made : (gs : List TypeEntry) (o : Option ℕ) {r : Result (Option Root) NoRoom} (n : NoRoom) → r ≡ Err n → length fs ≡ length ss → o ≡ None → AddsParts ps fs hs side o → MakesPart es gs used e side r
+      no_room_made gs o n answer same none a low t h form = subst (PartAnswer es gs used side t) (sym answer) (go q.ps refl)
         where
           q : PartsOf es first size side t
           q = parts_of side (known is h) form
 
           short : HasNoRoom fs q.xs
-          short = f (q.head and q.tail) q.ps q.xs (members_held q) q.members_form q.own q.brings (no_any q)
+          short = subst (AddsParts ps fs hs side) none a (q.head and q.tail) q.ps q.xs (members_held q) q.members_form q.own q.brings (no_any q)
 
           go : (qs : Types) → q.ps ≡ qs → PartAnswer es gs used side t (Err n)
           go no_types g =
@@ -418,12 +426,12 @@ module _ (es : List TypeEntry) (used first size from end : ℕ) (e : TypeEntry) 
               let lt = too_heavy fs q.brings (no_any q) short v in
               (u.0, is_union_part q v, grind (arith, common_steps))
 
-      module _ (n : ℕ) (f : AddsParts ps fs hs side (Some n)) where
+      module _ (o : Option ℕ) (n : ℕ) (some : o ≡ Some n) (a : AddsParts ps fs hs side o) where
         open_parts : {t : Ty} (q : PartsOf es first size side t) → OpenIn ps fs n q.xs
-        open_parts q = f (q.head and q.tail) q.ps q.xs (members_held q) q.members_form q.own q.brings (no_any q)
+        open_parts q = subst (AddsParts ps fs hs side) some a (q.head and q.tail) q.ps q.xs (members_held q) q.members_form q.own q.brings (no_any q)
 
         -- the members fit in their slots
-        pub none_beyond : (gs : List TypeEntry) (r : NoRoom) → length fs < n → MakesPart es gs used e side (Err r)
+        pub none_beyond : (gs : List TypeEntry) (r : Result (Option Root) NoRoom) → length fs < n → MakesPart es gs used e side r
         none_beyond gs r more low t h form = let o = open_parts (parts_of side (known is h) form) in let le = o.0 in absurd (omega arith)
 
         module _ (ms : List TypeEntry) (first-of : ms ≡ slice_range fs 0 n) where

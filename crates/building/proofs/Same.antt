@@ -6,7 +6,7 @@ use Rattle.types.specs.declared.entries.TypeEntry.{TypeEntry}
 use Rattle.types.specs.declared.entries.TypeEntry.TheVariants.{Unused, Any, Number, NumberLiteral, String, StringLiteral, Boolean, True, False, Undefined, Null, Function, Pair, List as ListOf, Union}
 use Rattle.types.specs.Types.{Ty, Types, any, number, number_literal, string, string_literal, boolean, true_literal, false_literal, undefined, null, function, pair, list, union, no_types, ◌and◌}
 use Rattle.types.specs.Table.{entry_at, SaysSame, Is, is_any, is_number, is_number_literal, is_string, is_string_literal, is_boolean, is_true, is_false, is_undefined, is_null, is_function, is_pair, is_list, is_union, Run, run_end, run_more}
-use Rattle.types.proofs.Parts.{same_decimal, same_text}
+use Rattle.types.proofs.Parts.{known, same_decimal, same_text}
 use Rattle.types.specs.declared.entries.Root.{Root}
 use Rattle.types.specs.Roots.{root_at}
 use Rattle.building.specs.Entries.{SaysSameRuns}
@@ -23,13 +23,6 @@ pub at_both : {es : List TypeEntry} {k l : ℕ} {r : Bool} (x y : Root) → x �
 at_both {es} {k} {r} x y p q f =
     let h = subst (λ z. SaysSameType es z.used z.entry y.used y.entry r) p f in
     subst (λ z. SaysSameType es k (entry_at es k) z.used z.entry r) q h
-
-pub free : {es : List TypeEntry} {n m : ℕ} {a b : TypeEntry} {r : Bool} → (n ≤ length es → m ≤ length es → (s t : Ty) → Is es n a s → Is es m b t → ⊥) → SaysSameType es n a m b r
-free f le le' s t x y = absurd (f le le' s t x y)
-
--- an entry whose variant is known
-pub known : {es : List TypeEntry} {n : ℕ} {a e : TypeEntry} {s : Ty} → a ≡ e → Is es n a s → Is es n e s
-known {es} {n} {s} p h = subst (λ x. Is es n x s) p h
 
 -- the entry of a type without parts; the other types have none
 unfoldable pub leaf : Ty → TypeEntry
@@ -153,12 +146,6 @@ not_string {es} {i} {j} {f} {m} {a} {b} is n = says_no (λ s t hs ht q. go refl 
     go {e} p (is_string_literal low u v) q x = back p (subst (λ z. Is es j e z) (sym q) x)
 
 -- pairs
-pub pair_low : {es : List TypeEntry} {i head tail : ℕ} {a : TypeEntry} {s : Ty} → a ≡ Pair head tail → Is es i a s → (head < i) × (tail < i)
-pair_low {es} {i} {head} {tail} is h = go (known is h)
-  where
-    go : {s : Ty} → Is es i (Pair head tail) s → (head < i) × (tail < i)
-    go (is_pair low low' x y) = (low, low')
-
 heads_of : {a b c d : Ty} → pair a b ≡ pair c d → a ≡ c
 heads_of p = cc
 
@@ -193,12 +180,6 @@ not_pair {es} {i} {j} {head} {tail} {a} {b} is n = says_no (λ s t hs ht q. go r
     go {e} p (is_pair low low' u v) q x = back p (subst (λ z. Is es j e z) (sym q) x)
 
 -- lists
-pub list_low : {es : List TypeEntry} {i element : ℕ} {a : TypeEntry} {s : Ty} → a ≡ ListOf element → Is es i a s → element < i
-list_low {es} {i} {element} is h = go (known is h)
-  where
-    go : {s : Ty} → Is es i (ListOf element) s → element < i
-    go (is_list low x) = low
-
 element_of : {a b : Ty} → list a ≡ list b → a ≡ b
 element_of p = cc
 
@@ -273,11 +254,14 @@ module _ {es : List TypeEntry} {first end other stop : ℕ} where
     λ e. refl,
   )
 
-  pub runs_differ : (k : ℕ) → end - first ≡ stop - other → k < end - first → At es first other k false → SaysSameRuns es first end other stop false
-  runs_differ k n lt d up on low high ts us r q = (
-    λ o. absurd (both_ways false refl o),
-    λ e. absurd (runs_apart k r (subst (λ k. Run es other k us) (sym n) q) (omega arith) (omega arith) lt d e),
-  )
+  pub runs_differ : (x y : ℕ) → end - first ≡ stop - other → first ≤ x → x < end → y ≡ other + (x - first) → SaysSameType es x (entry_at es x) y (entry_at es y) false → SaysSameRuns es first end other stop false
+  runs_differ x y n le lt there d up on low high ts us r q =
+      let k = x - first in
+      let here : x ≡ first + k = omega arith in
+      let at : At es first other k false = subst (λ i. SaysSameType es (first + k) (entry_at es (first + k)) i (entry_at es i) false) there (subst (λ i. SaysSameType es i (entry_at es i) y (entry_at es y) false) here d) in (
+        λ o. absurd (both_ways false refl o),
+        λ e. absurd (runs_apart k r (subst (λ m. Run es other m us) (sym n) q) (omega arith) (omega arith) (omega arith) at e),
+      )
 
 -- a run by the indexes where it begins and ends
 pub run_from : {es : List TypeEntry} {first size : ℕ} {ts : Types} (from end : ℕ) → from ≡ first → end ≡ first + size → Run es first size ts → Run es from (end - from) ts

@@ -110,6 +110,11 @@ AddsParts ps fs hs side r =
     (ts qs xs : Types) → Hold ps (length ps) hs ts → AllInForm ts → OwnParts side ts qs → Brings qs xs → (In any xs → ⊥)
     → Opened ps fs xs r
 
+-- the entries xs stand in fs from used on, and r is where they end, or they do not fit in
+abbrev pub Puts : List TypeEntry → ℕ → List TypeEntry → Option ℕ → Type 0
+Puts fs used xs (Some end) = (end ≡ used + length xs) × (end ≤ length fs) × ((j : ℕ) → j < length xs → entry_at fs (used + j) ≡ entry_at xs j)
+Puts fs used xs None = length fs < used + length xs
+
 -- the index i, moved up
 abbrev pub up : ℕ → ℕ → ℕ
 up by i = min (i + by) (2 ^ 64 - 1)

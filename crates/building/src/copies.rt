@@ -3,6 +3,7 @@ ghost use Rattle.std.specs.Prelude.{◌≡◌};
 ghost use Rattle.building.specs.Entries.{shift};
 ghost use Rattle.building.specs.Made.{Kept, MakesCopy};
 
+use crate::put::put;
 use types::entries::{Root, TypeEntry};
 
 // The same entry with the indexes of its parts moved up.
@@ -45,14 +46,8 @@ pub fn copied(
     ensures made { MakesCopy types.old types.new used others.now made result }
     ensures kept { Kept types.old types.new used }
 {
-    let entries = others.get(..made.used)?;
-    let end = used.checked_add(made.used)?;
-    if end > types.len() {
-        return None;
-    }
-    let places = &mut types[used..end];
-    places.copy_from_slice(entries);
-    for place in places.iter_mut() {
+    let end = put(types, used, others.get(..made.used)?)?;
+    for place in types[used..end].iter_mut() {
         *place = shifted(*place, used);
     }
     Some(Root {

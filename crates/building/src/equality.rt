@@ -53,11 +53,9 @@ fn same_runs(types: &[TypeEntry], run: Range<usize>, other: Range<usize>) -> boo
     if run.len() != other.len() {
         return false;
     }
-    // By an index: with `run.zip(other)` the proof does not learn what the two ranges yield.
-    for k in 0..run.len() {
-        let x = Root::at(types, run.start + k);
-        let y = Root::at(types, other.start + k);
-        if !same(types, x, y) {
+    // Not `all`: its closure would call back into this recursion, and such a closure gets no proof.
+    for (x, y) in run.zip(other) {
+        if !same(types, Root::at(types, x), Root::at(types, y)) {
             return false;
         }
     }

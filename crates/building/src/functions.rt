@@ -1,6 +1,7 @@
 // Function types made in the type table.
 ghost use Rattle.building.specs.Made.{Kept, MakesFunction};
 
+use crate::put::put;
 use types::entries::{Root, TypeEntry};
 
 // The function type of some parameters and a result, whose parts stand below `used`.
@@ -14,15 +15,13 @@ pub fn function_of(
     ensures made { MakesFunction types.old types.new used parameters.now res result }
     ensures kept { Kept types.old types.new used }
 {
-    let count = parameters.len();
-    let end = used.checked_add(count)?;
-    if end >= types.len() {
-        return None;
-    }
-    types[used..end].copy_from_slice(parameters);
-    types[end] = res;
+    let result_at = put(types, used, parameters)?;
+    let end = put(types, result_at, &[res])?;
     Some(Root {
-        entry: TypeEntry::Function { first: used, count },
-        used: end + 1,
+        entry: TypeEntry::Function {
+            first: used,
+            count: parameters.len(),
+        },
+        used: end,
     })
 }

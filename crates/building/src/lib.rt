@@ -11,6 +11,7 @@ pub mod literals;
 mod members;
 pub mod pairs;
 pub mod parts;
+mod put;
 pub mod unions;
 pub mod weights;
 

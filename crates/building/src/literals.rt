@@ -3,6 +3,7 @@ ghost use Rattle.std.specs.Prelude.{◌≡◌, ◌≤◌, pos, ◌+ℤ◌};
 ghost use Rattle.building.specs.Literals.{GivesNumber, MakesString};
 ghost use Rattle.building.specs.Made.{Kept};
 
+use crate::put::put;
 use lexer::decimal::decimal;
 use lexer::read::Decoder;
 use types::entries::{Root, TypeEntry};
@@ -36,17 +37,15 @@ pub fn string_of(types: &mut [TypeEntry], used: usize, text: &[u8]) -> Option<Ro
         return None;
     }
     let decoder = Decoder { text, at: 1 };
-    let mut count = 0;
+    let mut end = used;
     for unit in decoder {
-        let at = used + count;
-        if at >= types.len() {
-            return None;
-        }
-        types[at] = TypeEntry::CodeUnit(unit);
-        count += 1;
+        end = put(types, end, &[TypeEntry::CodeUnit(unit)])?;
     }
     Some(Root {
-        entry: TypeEntry::StringLiteral { first: used, count },
-        used: used + count,
+        entry: TypeEntry::StringLiteral {
+            first: used,
+            count: end - used,
+        },
+        used: end,
     })
 }

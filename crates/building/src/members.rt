@@ -6,14 +6,11 @@ use crate::equality::same;
 use types::entries::{Root, TypeEntry};
 use types::kinds::{kind_of, rank_of};
 
-// The rank of the kind of a type; `any` and a union have none.
+// The rank of the kind of a type; `any` and a union have none, and stand after all twelve.
 fn rank_of_entry(e: TypeEntry) -> usize
     ensures { result ≡ entry_rank e }
 {
-    match kind_of(e) {
-        Some(kind) => rank_of(kind),
-        None => 12,
-    }
+    kind_of(e).map_or(12, rank_of)
 }
 
 // Whether the type e is one of the members.
@@ -56,6 +53,7 @@ fn add_member(
         return None;
     }
     slots.copy_within(place..count, place + 1);
+    // By an index: `get_mut` says nothing of what the slots end as.
     slots[place] = e;
     Some(count + 1)
 }

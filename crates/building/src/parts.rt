@@ -35,22 +35,14 @@ pub fn own_part(types: &[TypeEntry], a: Root, side: Side) -> Option<TypeEntry>
 fn part_is_any(types: &[TypeEntry], a: Root, side: Side) -> bool
     ensures { SaysPartAny types.now a.used a.entry side result }
 {
-    match own_part(types, a, side) {
-        Some(part) => part == TypeEntry::Any,
-        None => false,
-    }
+    own_part(types, a, side) == Some(TypeEntry::Any)
 }
 
 // Whether the part of some type in a run of entries is `any`.
-fn has_any_part(types: &[TypeEntry], run: Range<usize>, side: Side) -> bool
+fn has_any_part(types: &[TypeEntry], mut run: Range<usize>, side: Side) -> bool
     ensures { SaysAnyPart types.now run.start run.end side result }
 {
-    for k in run {
-        if part_is_any(types, Root::at(types, k), side) {
-            return true;
-        }
-    }
-    false
+    run.any(|k| part_is_any(types, Root::at(types, k), side))
 }
 
 // Adds the part on a side of the type e, if it has one, to an open union.
@@ -100,11 +92,9 @@ pub fn part_of(types: &mut [TypeEntry], a: Root, side: Side) -> Result<Option<Ro
         return Err(NoRoom);
     }
     let TypeEntry::Union { first, count: size } = a.entry else {
-        return match own_part(types, a, side) {
-            Some(entry) => Ok(Some(Root { entry, used })),
-            None => Ok(None),
-        };
+        return Ok(own_part(types, a, side).map(|entry| Root { entry, used }));
     };
+    // A let-else: `?` gives no Ok(None).
     let Some(Range { start, end }) = a.run(first, size) else {
         return Ok(None);
     };
@@ -114,16 +104,10 @@ pub fn part_of(types: &mut [TypeEntry], a: Root, side: Side) -> Result<Option<Ro
             used,
         }));
     }
-    let Some((parts, slots)) = types.split_at_mut_checked(used) else {
-        return Err(NoRoom);
-    };
+    let (parts, slots) = types.split_at_mut(used);
     let parts = &*parts;
-    let Some(count) = add_parts(parts, slots, &parts[start..end], side) else {
-        return Err(NoRoom);
-    };
-    let Some(members) = slots.get(..count) else {
-        return Err(NoRoom);
-    };
+    let count = add_parts(parts, slots, &parts[start..end], side).ok_or(NoRoom)?;
+    let members = slots.get(..count).ok_or(NoRoom)?;
     if members.is_empty() {
         return Ok(None);
     }

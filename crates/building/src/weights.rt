@@ -21,10 +21,7 @@ pub fn weight_within(types: &[TypeEntry], a: Root, limit: usize) -> usize
     if a.used > types.len() {
         return 0;
     }
-    match parts_weigh(types, a, limit) {
-        Some(parts) => sum_within(1, parts, limit),
-        None => 0,
-    }
+    parts_weigh(types, a, limit).map_or(0, |parts| sum_within(1, parts, limit))
 }
 
 // The weight of the parts of a type; where it is over the limit, some number that is. None where a part does not stand

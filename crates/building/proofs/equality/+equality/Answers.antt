@@ -1,7 +1,7 @@
 -- `same` answers whether two types are the same: each way out of it by one lemma of `Same`. Assumes nothing.
-use Rattle.std.proofs.Common.{◌≡◌, Decides, sym, ◌∙◌, subst, arith, rules, below_more}
-use Rattle.types.proofs.Parts.{entries_Decides}
-use Rattle.building.proofs.Same.{at_both, pair_low, strings_same, lengths_apart, not_string, heads_apart, tails_same, not_pair, lists_same, not_list, parameters_apart, results_same, not_function, members_same, not_union, leaves_same, not_alike, runs_unlike, runs_alike, runs_differ}
+use Rattle.std.proofs.Common.{◌≡◌, Decides, sym, ◌∙◌, subst, ⊎_elim, arith, rules}
+use Rattle.types.proofs.Parts.{pair_low, entries_Decides}
+use Rattle.building.proofs.Same.{at_both, strings_same, lengths_apart, not_string, heads_apart, tails_same, not_pair, lists_same, not_list, parameters_apart, results_same, not_function, members_same, not_union, leaves_same, not_alike, runs_unlike, runs_alike, runs_differ}
 use Rattle.building.proofs.equality.+equality.Goals as goal
 use Rattle.building.proofs.equality.+equality.Goals.{same_parts-in_default-via-in-StringLiteral+in_default, same_parts-in_default-via-in-Function+in_default, same_parts-in_default-via-in-Pair+in_default, same_parts-in_default-via-in-List+in_default, same_parts-in_default-via-in-Union+in_default, same_parts-in_default-via-in_default}
 
@@ -62,10 +62,13 @@ pub same_runs-returns-then-len : goal.same_runs-returns-then-len
 same_runs-returns-then-len t c = runs_unlike (λ e. c.if-len.true (c.len.ensures.value ∙ e ∙ sym c.len-2.ensures.value))
 
 pub same_runs-returns-then-not-same : goal.same_runs-returns-then-not-same
-same_runs-returns-then-not-same t c = runs_differ c.loop-k.k (sym c.len.ensures.value ∙ c.if-len.false ∙ c.len-2.ensures.value) (omega arith) (at_both _ _ c.at-x.ensures c.at-y.ensures c.if-not-same.ensures)
-
-pub same_runs-loop-k-preserved : goal.same_runs-loop-k-preserved
-same_runs-loop-k-preserved t c = below_more _ _ c.loop-k.invariant (at_both _ _ c.at-x.ensures c.at-y.ensures c.if-not-same.ensures)
+same_runs-returns-then-not-same t c =
+    let f = c.loop-x.invariant in
+    let s = c.in-Some.ensures.steps in
+    runs_differ c.in-Some.x c.in-Some.y (sym c.len.ensures.value ∙ c.if-len.false ∙ c.len-2.ensures.value) (omega (arith, f.2, s)) (omega (arith, f.0, s)) (omega (arith, f.3, s)) (at_both _ _ c.at.ensures c.at-in-loop-x.ensures c.if-not-same.ensures)
 
 pub same_runs-returns : goal.same_runs-returns
-same_runs-returns t c = runs_alike (sym c.len.ensures.value ∙ c.if-len.false ∙ c.len-2.ensures.value) (λ k lt. c.loop-k.invariant k (omega arith))
+same_runs-returns t c =
+    let f = c.loop-x.invariant in
+    let n = sym c.len.ensures.value ∙ c.if-len.false ∙ c.len-2.ensures.value in
+    runs_alike n (λ k lt. f.4 k (⊎_elim (λ d. omega (arith, d.1, f.0)) (λ d. omega (arith, d.1, f.1, f.3)) c.in-None.ensures.steps))

@@ -3,16 +3,16 @@ use Rattle.std.proofs.Common.{◌∙◌}
 use Rattle.building.proofs.LiteralsMade.{unit_filled, string_full, string_filled}
 use Rattle.building.proofs.literals.string_of.Goals as goal
 
-pub returns-then-at-types-clause-made : goal.returns-then-at-types-clause-made
-returns-then-at-types-clause-made c =
-    string_full _ c.loop-unit.types _ _ c.loop-unit.unit-iterator.text.now c.loop-unit.invariant.0 c.loop-unit.unit-iterator.at _ c.loop-unit.invariant.1 c.in-Some.unit _ c.loop-unit.auto.types c.if-at-types.true c.in-Some.ensures.steps.unit
+pub returns-in_err-end-clause-made : goal.returns-in_err-end-clause-made
+returns-in_err-end-clause-made c =
+    string_full _ _ _ _ _ c.loop-unit.unit-iterator.text.now c.loop-unit.invariant.0 c.loop-unit.unit-iterator.at c.loop-unit.invariant.1 _ c.in-Some.unit _ c.from_residual.ensures (c.put.auto.types ∙ c.loop-unit.auto.types) c.in_err-end.ensures.written c.in-Some.ensures.steps.unit
 
 pub loop-unit-preserved : goal.loop-unit-preserved
 loop-unit-preserved c = (
   c.in-Some.ensures.steps.text ∙ c.loop-unit.invariant.0,
-  unit_filled _ _ _ _ c.loop-unit.unit-iterator.text.now c.loop-unit.invariant.0 c.loop-unit.unit-iterator.at _ c.loop-unit.invariant.1 c.in-Some.unit _ c.if-at-types.false c.in-Some.ensures.steps.unit,
+  unit_filled _ _ _ _ _ c.loop-unit.unit-iterator.text.now c.loop-unit.invariant.0 c.loop-unit.unit-iterator.at c.loop-unit.invariant.1 _ c.in-Some.unit _ _ c.in_ok-end.ensures.written c.in_ok-end.ensures.kept c.in-Some.ensures.steps.unit,
 )
 
 pub returns-clause-made : goal.returns-clause-made
 returns-clause-made c =
-    string_filled _ _ _ _ c.loop-unit.unit-iterator.text.now c.loop-unit.invariant.0 c.loop-unit.unit-iterator.at _ c.loop-unit.invariant.1 _ c.in-None.ensures.steps.unit
+    string_filled _ _ _ _ _ c.loop-unit.unit-iterator.text.now c.loop-unit.invariant.0 c.loop-unit.unit-iterator.at c.loop-unit.invariant.1 _ c.in-None.ensures.steps.unit

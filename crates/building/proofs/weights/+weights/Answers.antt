@@ -1,7 +1,8 @@
 -- `weight_within` answers the weight: each way out of it by one lemma of `Weigh`. Assumes nothing.
 use Rattle.std.proofs.Common.{◌≡◌, ◌∙◌, ap, arith}
 use Rattle.types.specs.Roots.{root_at}
-use Rattle.building.proofs.Same.{function_low, pair_low, list_low, union_low}
+use Rattle.types.proofs.Parts.{pair_low, list_low}
+use Rattle.building.proofs.Same.{function_low, union_low}
 use Rattle.building.proofs.Weigh.{no_weight, one_more, function_weighs}
 use Rattle.building.proofs.weights.+weights.Goals as goal
 

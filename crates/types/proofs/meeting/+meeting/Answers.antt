@@ -1,7 +1,7 @@
 -- `meets` answers whether two types meet: each way out of it by one lemma of `Parts`. Assumes nothing.
 use Rattle.std.proofs.Common.{◌≡◌, Decides, sym, ◌∙◌, arith, rules}
 use Rattle.std.proofs.lemmas.Bool.Decides.{Decides-eqb}
-use Rattle.types.proofs.Parts.{flip, union_meets, some_met, none_met, any_meets, kinds_meet, kinds_never, by_parts, first_broken, second_broken, at_both, at_first, numbers_meet, no_number, functions_meet, strings_meet, lengths_apart, pair_low, list_low, heads_apart, heads_meet, element_apart, element_meets}
+use Rattle.types.proofs.Parts.{flip, union_meets, some_met, none_met, any_meets, kinds_meet, kinds_never, by_parts, first_broken, second_broken, at_both, at_first, numbers_meet, functions_meet, strings_meet, lengths_apart, pair_low, list_low, heads_apart, heads_meet, element_apart, element_meets}
 use Rattle.types.proofs.meeting.+meeting.Goals as goal
 
 pub meets-returns-in-Some : goal.meets-returns-in-Some
@@ -94,6 +94,3 @@ pub parts_meet-returns-in-NumberLiteral-NumberLiteral : goal.parts_meet-returns-
 parts_meet-returns-in-NumberLiteral-NumberLiteral t c k l ki lj v =
     let d : Decides c.eq-met.result ((c.in-NumberLiteral-NumberLiteral.digits ≡ c.in-NumberLiteral-NumberLiteral.d) × (c.in-NumberLiteral-NumberLiteral.exponent ≡ c.in-NumberLiteral-NumberLiteral.e)) = search rules in
     numbers_meet c.in-NumberLiteral-NumberLiteral.is-0 c.in-NumberLiteral-NumberLiteral.is-1 d
-
-pub parts_meet-returns-in_default : goal.parts_meet-returns-in_default
-parts_meet-returns-in_default t c k l ki lj v = no_number ki lj v c.in_default.is-0 c.in_default.not-NumberLiteral-1

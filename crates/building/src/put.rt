@@ -1,0 +1,19 @@
+// Entries written into the type table.
+ghost use Rattle.building.specs.Entries.{Puts};
+ghost use Rattle.building.specs.Made.{Kept};
+
+use types::entries::TypeEntry;
+
+// Writes some entries from `used` on, and answers where they end. None where they do not fit in.
+pub fn put(types: &mut [TypeEntry], used: usize, entries: &[TypeEntry]) -> Option<usize>
+    ensures written { Puts types.new used entries.now result }
+    ensures kept { Kept types.old types.new used }
+{
+    let end = used.checked_add(entries.len())?;
+    if end > types.len() {
+        return None;
+    }
+    // By indexes: `get_mut` says nothing of what the table ends as.
+    types[used..end].copy_from_slice(entries);
+    Some(end)
+}
