@@ -11,5 +11,6 @@ told_function-requires c = few_parameters c.in-Function.parameters.now c.in-Func
 
 pub returns-in-Plain : goal.returns-in-Plain
 returns-in-Plain c =
-    subst (λ s. Tells (Some (binding_of s)) (Some (Told.Typed (record { entry = c.from.result; used = 0 }))) c.args.room.now) (sym c.in-Plain.is)
-    (_, refl, plain_made c.args.room.now c.in-Plain.t c.from.result c.from.ensures)
+    let m = c.without_parts.result in
+    subst (λ s. Tells (Some (binding_of s)) (Some (Told.Typed m)) c.args.room.now) (sym c.in-Plain.is)
+    (_, refl, plain_made c.args.room.now c.in-Plain.t m (cc))
