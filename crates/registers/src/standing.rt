@@ -46,7 +46,7 @@ fn told_function(parameters: &[Basic], last: Basic, room: &mut [TypeEntry; ROOM]
     requires { length parameters.now < ROOM }
     ensures { MadeIn room.new (function (basic_types parameters.now) (basic_type last)) result }
 {
-    // By index: of what is written through `iter_mut`, a proof would know the length alone.
+    // By index: of what is written through `iter_mut` zipped with the parameters, a proof would know the length alone.
     for (i, parameter) in parameters.iter().enumerate() {
         room[i] = TypeEntry::from(*parameter);
     }
