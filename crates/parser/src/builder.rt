@@ -88,6 +88,7 @@ impl<'a> Builder<'a> {
     }
 
     // Completes the parts that end with their operand and await one that binds as tightly as `least`, from the top down.
+    #[tactic(auto, using(crate::proofs::Reductions::completes_more))]
     fn reduce(&mut self, mut at: usize, least: usize) -> usize
         requires { HasRoom self.old }
         ensures completes { Completes self.old at least self.new result }
