@@ -213,3 +213,6 @@ goes_on_at {sheet} {old} {new} {fs} {gs} {last = last} {b = b} {ps = ps} {e} {i}
     let q = subst (λ l. Reduced old fs i (l + 1) new gs o) same r in
     let a = q.turns sheet last atom b ps e t h (fits_atom t) (ends_follow t f (sym is)) in
     via_next a (k a.parts a.tight a.tree t (sym is) (lower_wants (subst (λ l. Lower (l + 1) gs) same lower) a.ended.before.frames) (a.goes f (sym is)) a.ended)
+
+-- what a token leaves where an operand is wanted and the token begins one
+pub ruleset operands = (step_leaf, step_open, step_prefix, no_leaf)

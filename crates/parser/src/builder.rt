@@ -101,6 +101,7 @@ impl<'a> Builder<'a> {
     }
 
     // A token where an operand is wanted.
+    #[tactic(auto, using(crate::proofs::Arms::operands))]
     fn operand(&mut self, t: Token) -> Option<Position>
         requires { HasRoom self.old }
         ensures grown { Grown 1 self.old self.new }

@@ -65,6 +65,7 @@ impl OperatorEntry {
     {
         match self {
             OperatorEntry::Infix { operator, .. } => operator.binding() + 1,
+            // tighter than every operator between operands
             OperatorEntry::Prefix { .. } => 8,
             _ => 0,
         }
