@@ -1,5 +1,6 @@
 -- What each arm of the reader's functions leaves. Assumes nothing.
 use Rattle.std.proofs.Common.{◌≡◌, ℕ, ◌+◌, ◌<◌, ◌≤◌, List, [], ◌∷◌, ◌++◌, length, set, Some, None, Option, sym, refl, ap, ◌∙◌, subst, inl, inr, arith, MatchOption}
+use Rattle.std.proofs.lemmas.Option.{same_Some}
 use Rattle.parser.specs.declared.symbols.Leaf.{Leaf as AnyLeaf}
 use Rattle.parser.specs.declared.symbols.Prefix.{Prefix as AnyPrefix}
 use Rattle.parser.specs.declared.symbols.Operator.{Operator}
@@ -19,7 +20,7 @@ use Rattle.parser.specs.Table.{Tree, leaf_at, Listed, one_more, proper_leaf, pro
 use Rattle.parser.specs.Machine.{right_infix, right_prefix, otherwise, Part, right, bracket, consequent, State, start, want, after, wants, Ready, Same, Dead}
 use Rattle.parser.specs.Holds.{Operand, Progress, Within, Fits, Ends, AfterAll, Reduced, Kept, Frames, no_frame, an_infix, a_prefix, an_otherwise, a_bracket, a_consequent, Before, Ended, at_start, at_want, at_after, Next, Lower}
 use Rattle.parser.proofs.Corner.{left_atom}
-use Rattle.parser.proofs.Turns.{one_follow, never, wants_prefix, at_infix, at_question, at_leaf, at_open, at_prefix, at_close, at_end, at_colon, Closer, not_closed}
+use Rattle.parser.proofs.Turns.{never, wants_prefix, at_infix, at_question, at_leaf, at_open, at_prefix, at_close, at_end, at_colon, Closer, not_closed}
 use Rattle.parser.proofs.TreeTables.{kept_set, set_at, tree_kept, listed_kept, below, earlier, before_more}
 
 -- a token that is an expression by itself: one entry more
@@ -171,7 +172,7 @@ pub fits_atom : (t : Token) → Fits t atom
 fits_atom t f o = left_atom f
 
 pub ends_follow : (t : Token) (f : Follow) → follow t.symbol ≡ Some f → Ends t (level f + 1)
-ends_follow t f o g p = omega (arith, ap level (one_follow f g o p))
+ends_follow t f o g p = omega (arith, ap level (same_Some f g (sym o ∙ p)))
 
 pub ends_other : (t : Token) (least : ℕ) → follow t.symbol ≡ None → Ends t least
 ends_other t least n f o = never f n o
@@ -212,3 +213,6 @@ goes_on_at {sheet} {old} {new} {fs} {gs} {last = last} {b = b} {ps = ps} {e} {i}
     let q = subst (λ l. Reduced old fs i (l + 1) new gs o) same r in
     let a = q.turns sheet last atom b ps e t h (fits_atom t) (ends_follow t f (sym is)) in
     via_next a (k a.parts a.tight a.tree t (sym is) (lower_wants (subst (λ l. Lower (l + 1) gs) same lower) a.ended.before.frames) (a.goes f (sym is)) a.ended)
+
+-- what a token leaves where an operand is wanted and the token begins one
+pub ruleset operands = (step_leaf, step_open, step_prefix, no_leaf)

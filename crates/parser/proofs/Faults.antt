@@ -76,3 +76,6 @@ module _ (s : Sizes) (sheet : List ℕ) where
         where
           told : (r : Reason) (p : ℕ) → r ≡ NoProgram → NotProgram sheet p → FirstFault (Fault s sheet) (record { reason = r; place = p })
           told r p is f = subst (λ q. FirstFault (Fault s sheet) (record { reason = q; place = p })) (sym is) (program_first p f)
+
+-- what `read` needs, for each way in which it ends
+pub ruleset told_first = (short_first, token_first, answered)

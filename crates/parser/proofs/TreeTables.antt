@@ -1,6 +1,5 @@
 -- What a write above the entries in use leaves. Assumes nothing.
-use Rattle.std.proofs.Common.{◌≡◌, ℕ, ◌+◌, ◌<◌, ◌≤◌, List, length, set, IfSome, Some, None, Option, sym, ◌∙◌, subst, ⊎_elim, arith, length-set, get_or-set_other, get_or-set_same}
-use Rattle.std.proofs.lemmas.Bool.{cases_lt}
+use Rattle.std.proofs.Common.{◌≡◌, ℕ, ◌+◌, ◌<◌, ◌≤◌, List, length, set, IfSome, Some, None, Option, sym, ◌∙◌, subst, below_more, arith, length-set, get_or-set_other, get_or-set_same}
 use Rattle.std.proofs.lemmas.Option.{IfSome_then}
 use Rattle.parser.specs.declared.tree.TreeEntry.{TreeEntry}
 use Rattle.parser.specs.declared.tree.TreeEntry.TheVariants.{Blank}
@@ -64,11 +63,10 @@ proper_kept k l (proper_choice p q r) = proper_choice (below_kept k l p) (below_
 proper_kept k l (proper_statement p q) = proper_statement (earlier_kept _ k l p) (below_kept k l q)
 
 pub proper_more : {sheet n : ℕ} {old new : List TreeEntry} (y : TreeEntry) → Kept n old new → tree_at new n ≡ y → Proper sheet new n y → AllProper sheet old n → AllProper sheet new (n + 1)
-proper_more {sheet} {n} {old} {new} y k is p all i l =
-    ⊎_elim
-    (λ h. subst (Proper sheet new i) (sym (k.same i h)) (proper_kept k h (all i h)))
-    (λ h. let e : n ≡ i = omega arith in subst (λ j. Proper sheet new j (tree_at new j)) e (subst (Proper sheet new n) (sym is) p))
-    (cases_lt i n)
+proper_more {sheet} {n} {new = new} y k is p all =
+    below_more (λ i. Proper sheet new i (tree_at new i)) n
+    (λ i h. subst (Proper sheet new i) (sym (k.same i h)) (proper_kept k h (all i h)))
+    (subst (Proper sheet new n) (sym is) p)
 
 -- one entry more
 pub before_more : {sheet n : ℕ} {d : Option ℕ} {table : List TreeEntry} {fs : List OperatorEntry} {b : List Expr} {ps : List Part} (y : TreeEntry) → n < length table → Proper sheet (set table n y) n y → Before sheet table fs n d b ps → Before sheet (set table n y) fs (n + 1) d b ps

@@ -1,5 +1,6 @@
 -- One lemma for each turn of the reader. Assumes nothing.
 use Rattle.std.proofs.Common.{◌≡◌, ℕ, suc, ◌≤◌, List, [], ◌∷◌, ◌++◌, Some, None, Option, sym, refl, ap, ◌∙◌, subst, append_assoc, append-nil, le_refl, arith, lit≤}
+use Rattle.std.proofs.lemmas.Option.{none-some, same_Some}
 use Rattle.parser.specs.declared.symbols.Leaf.{Leaf as AnyLeaf}
 use Rattle.parser.specs.declared.symbols.Leaf.TheVariants.{Null}
 use Rattle.parser.specs.declared.symbols.Prefix.{Prefix as AnyPrefix}
@@ -23,12 +24,8 @@ wants_prefix (consequent a ∷ ps) = lit≤ tt
 pub wants_atom : (ps : List Part) → wants ps ≤ atom
 wants_atom ps = omega (arith, wants_prefix ps)
 
--- a token has one way to go on
-pub one_follow : {o : Option Follow} (p q : Follow) → o ≡ Some p → o ≡ Some q → p ≡ q
-one_follow p q h k = cc
-
 pub never : {A B : Type 0} {o : Option B} (p : B) → o ≡ None → o ≡ Some p → A
-never p h k = let z : ◌≡◌ {A = ℕ} 0 1 = cc in absurd (omega arith)
+never p h k = absurd (none-some p (sym h ∙ k))
 
 -- before a statement
 
@@ -57,17 +54,11 @@ heads h = let s = split h.2 in record { tight = s.tight; first = s.first; then =
 led : {b : List Expr} {ps : List Part} {k : ℕ} {e : Expr} {ts us : List Token} {all : List Expr} → Operand k ts e us → Completes (after k e) b ps us all → Completes want b ps ts all
 led p h = (h.0, h.1, onto (begins (le_refl _) p) h.2, h.3)
 
-one_leaf : {o : Option AnyLeaf} (p q : AnyLeaf) → o ≡ Some p → o ≡ Some q → p ≡ q
-one_leaf p q h k = cc
-
-one_prefix : {o : Option AnyPrefix} (p q : AnyPrefix) → o ≡ Some p → o ≡ Some q → p ≡ q
-one_prefix p q h k = cc
-
 pub at_leaf : (b : List Expr) (ps : List Part) (l : AnyLeaf) (t : Token) (ts : List Token) → t.symbol ≡ Leaf l → Same want b ps (t ∷ ts) (after atom (leaf l t.place t.len)) b ps ts
 at_leaf b ps l t ts is all = (λ h. let s = heads h in from s.head s.rest, led (a_leaf (ap leaf_of is)))
   where
     from : {k : ℕ} {p : Expr} {us : List Token} → Operand k (t ∷ ts) p us → Completes (after k p) b ps us all → Completes (after atom (leaf l t.place t.len)) b ps ts all
-    from (a_leaf {l = m} q) h = subst (λ x. Completes (after atom (leaf x t.place t.len)) b ps ts all) (one_leaf m l q (ap leaf_of is)) h
+    from (a_leaf {l = m} q) h = subst (λ x. Completes (after atom (leaf x t.place t.len)) b ps ts all) (same_Some m l (sym q ∙ ap leaf_of is)) h
     from (brackets o c d) h = never l (ap leaf_of o) (ap leaf_of is)
     from (prefixed {op = op} q d) h = never op (ap before is) q
 
@@ -89,7 +80,7 @@ at_prefix b ps op t ts is other all = (λ h. let s = heads h in from s.head s.re
     from (a_leaf {l = l} q) h = never l other q
     from (brackets o c d) h = never op (ap before o) is
     from (prefixed {op = q} p d) h =
-        subst (λ x. Completes want b (right (right_prefix x t.place) ∷ ps) ts all) (one_prefix q op p is) (_, _, d, applies h.2 h.3)
+        subst (λ x. Completes want b (right (right_prefix x t.place) ∷ ps) ts all) (same_Some q op (sym p ∙ is)) (_, _, d, applies h.2 h.3)
 
     back : {e : Expr} {us : List Token} → Phrase prefix ts e us → Closes b (right (right_prefix op t.place) ∷ ps) e us all → Completes want b ps (t ∷ ts) all
     back d (applies x c) = led (prefixed is d) (_, _, x, c)
@@ -111,7 +102,7 @@ unclosed f o h (ends i s q) = never f (ap follow i) o
 unclosed f o h (shuts i x c) = never f (ap follow i) o
 unclosed f o h (turns i d x c) = never f (ap follow i) o
 unclosed f o h (applies {r = r} (stop l) c) = unclosed f o (omega (arith, tight_wanted r)) c
-unclosed f o h (applies {r = r} (step g p l k s x) c) = right_shut r f h (subst (λ q. left q ≤ tightness r) (one_follow g f p o) k)
+unclosed f o h (applies {r = r} (step g p l k s x) c) = right_shut r f h (subst (λ q. left q ≤ tightness r) (same_Some g f (sym p ∙ o)) k)
 
 -- a token that goes on, with the part that it opens
 module _ (b : List Expr) (ps : List Part) (k : ℕ) (e : Expr) (t : Token) (f : Follow) (ts : List Token) (o : follow t.symbol ≡ Some f) (low : wants ps ≤ level f) (high : left f ≤ k) where
@@ -120,7 +111,7 @@ module _ (b : List Expr) (ps : List Part) (k : ℕ) (e : Expr) (t : Token) (f : 
     where
       go : {e' : Expr} {us : List Token} → Onward k (wants ps) e (t ∷ ts) e' us → Closes b ps e' us all → (a : Expr) × (us : List Token) × Suffix f e ts a us × Completes (after (level f) a) b ps us all
       go (stop l) c = absurd (unclosed f o low c)
-      go (step g p l k' s x) c = subst (λ q. (a : Expr) × (us : List Token) × Suffix q e ts a us × Completes (after (level q) a) b ps us all) (one_follow g f p o) (_, _, s, (_, _, x, c))
+      go (step g p l k' s x) c = subst (λ q. (a : Expr) × (us : List Token) × Suffix q e ts a us × Completes (after (level q) a) b ps us all) (same_Some g f (sym p ∙ o)) (_, _, s, (_, _, x, c))
 
   off : {all : List Expr} {a : Expr} {us : List Token} → Suffix f e ts a us → Completes (after (level f) a) b ps us all → Completes (after k e) b ps (t ∷ ts) all
   off s h = (_, _, step f o low high s h.2, h.3)

@@ -43,6 +43,8 @@ pub struct Builder<'a> {
     pub last: Option<usize>,
 }
 
+// Two facts stand at most methods: `HasRoom`, that each table has room for one entry more, and `Grown n`, that the tables
+// are the ones that they were, with at most n entries more in use.
 impl<'a> Builder<'a> {
     pub fn new(tree: &'a mut [TreeEntry], parts: &'a mut [OperatorEntry]) -> Self
         ensures lent { result.tree.ghost_name ≡ tree.entry.ghost_name }
@@ -64,6 +66,7 @@ impl<'a> Builder<'a> {
         ensures { Adds entry self.old self.new result }
     {
         let at = self.used;
+        // By index: of what is written through `get_mut`, a proof would know the length alone.
         self.tree[at] = entry;
         self.used = at + 1;
         at
@@ -85,6 +88,7 @@ impl<'a> Builder<'a> {
     }
 
     // Completes the parts that end with their operand and await one that binds as tightly as `least`, from the top down.
+    #[tactic(auto, using(crate::proofs::Reductions::completes_more))]
     fn reduce(&mut self, mut at: usize, least: usize) -> usize
         requires { HasRoom self.old }
         ensures completes { Completes self.old at least self.new result }
@@ -97,6 +101,7 @@ impl<'a> Builder<'a> {
     }
 
     // A token where an operand is wanted.
+    #[tactic(auto, using(crate::proofs::Arms::operands))]
     fn operand(&mut self, t: Token) -> Option<Position>
         requires { HasRoom self.old }
         ensures grown { Grown 1 self.old self.new }

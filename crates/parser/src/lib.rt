@@ -21,7 +21,9 @@ use lexer::refusal::Refusal;
 use lexer::scan::scan;
 
 // Reads a sheet into the tree table. The other tables are those that a check of the sheet takes, and what they hold after
-// is free.
+// is free. Each call that takes them says that they come back, as long as they were (`lent`): of loans in a struct that
+// is lent, a proof knows only what the call's clauses tell.
+#[tactic(auto, using(crate::proofs::Faults::told_first))]
 pub fn read(
     sheet: &[u8],
     tree: &mut [TreeEntry],

@@ -12,7 +12,8 @@ pub const ENTRIES: usize = 4096;
 // How many the type table has.
 pub const TYPES: usize = 8192;
 
-// The tables that a call works in, beside the tree: two stacks, and the types of a checked sheet.
+// The tables that a call works in, beside the tree: two stacks, and the types of a checked sheet. The tree is no field: a
+// check only reads it, and a shared and a mutable loan out of one struct have no rule yet.
 #[derive(Drop)]
 pub struct Tables<'a> {
     pub operators: &'a mut [OperatorEntry],

@@ -1,11 +1,12 @@
-// The tree table and the stacks.
+// The tree table and the stacks. A caller lends them, since the project has fixed memory and no heap: so parts are given
+// by index and not boxed, and each table has a kind `Blank`, for entries that are not written yet.
 ghost use Rattle.std.specs.Prelude.{◌≡◌};
 ghost use Rattle.parser.specs.Holds.{awaits, completion};
 
 use crate::symbols::{Leaf, Operator, Prefix};
 use types::entries::TypeEntry;
 
-// One entry of the tree table. Parts are given by their indexes, which are lower than their owner's.
+// One entry of the tree table. The indexes of its parts are lower than its own.
 #[derive(Clone, Copy)]
 pub enum TreeEntry {
     Blank,
@@ -39,7 +40,7 @@ pub enum TreeEntry {
 }
 
 // One entry of the stack that holds pending operators and open parts while a sheet is read, and finished operands while
-// it is checked.
+// it is checked: so that a caller lends one table for both.
 #[derive(Clone, Copy)]
 pub enum OperatorEntry {
     Blank,
@@ -64,6 +65,7 @@ impl OperatorEntry {
     {
         match self {
             OperatorEntry::Infix { operator, .. } => operator.binding() + 1,
+            // tighter than every operator between operands
             OperatorEntry::Prefix { .. } => 8,
             _ => 0,
         }

@@ -1,6 +1,7 @@
 -- Function types of types without parts, written from the first entry on. Assumes nothing.
 use Rattle.std.proofs.Common.{◌≡◌, ℕ, suc, ◌+◌, ◌<◌, ◌≤◌, List, [], ◌∷◌, length, get_or, sym, subst, refl, ap, ◌∙◌, set, add-zero, zero-add, below_more, arith}
 use Rattle.std.proofs.lemmas.List.{get_or-set_same, get_or-set_other, get_or_default}
+use Rattle.types.specs.declared.entries.Root.{Root}
 use Rattle.types.specs.declared.entries.TypeEntry.{TypeEntry}
 use Rattle.types.specs.declared.entries.TypeEntry.TheVariants.{Unused, Function}
 use Rattle.types.specs.Types.{function}
@@ -25,8 +26,10 @@ basic_is es n Basic.Undefined = is_undefined
 entry_is : (es : List TypeEntry) (n : ℕ) (t : Basic) (e : TypeEntry) → e ≡ basic_entry t → Is es n e (basic_type t)
 entry_is es n t e h = subst (λ y. Is es n y (basic_type t)) (sym h) (basic_is es n t)
 
-pub plain_made : (es : List TypeEntry) (t : Basic) (e : TypeEntry) → e ≡ basic_entry t → MadeIn es (basic_type t) (record { entry = e; used = 0 })
-plain_made es t e h = record { holds = entry_is es 0 t e h; within = omega arith; light = some_weight (basic_type t); filled = filled_none es 0 }
+pub plain_made : (es : List TypeEntry) (t : Basic) (m : Root) → m ≡ record { entry = basic_entry t; used = 0 } → MadeIn es (basic_type t) m
+plain_made es t m h =
+    subst (MadeIn es (basic_type t)) (sym h)
+    (record { holds = basic_is es 0 t; within = omega arith; light = some_weight (basic_type t); filled = filled_none es 0 })
 
 -- the first n entries were made of the first n parameters
 abbrev pub ParametersAt : List TypeEntry → List Basic → ℕ → Type 0

@@ -3,7 +3,7 @@ ghost use Rattle.registers.specs.Meaning.{nothing};
 ghost use Rattle.registers.specs.Soundness.{nothing_sound};
 
 use crate::found::Told;
-use crate::register::Register;
+use crate::register::{ROOM, Register};
 use types::entries::TypeEntry;
 
 #[derive(Clone, Copy)]
@@ -14,7 +14,7 @@ impl Register for Empty {
 
     ghost sound = { λ _. nothing_sound };
 
-    fn ask(&self, _name: &[u8], _room: &mut [TypeEntry; 128]) -> Option<Told> {
+    fn ask(&self, _name: &[u8], _room: &mut [TypeEntry; ROOM]) -> Option<Told> {
         None
     }
 }

@@ -3,7 +3,7 @@ ghost use Rattle.registers.specs.Library.{library};
 ghost use Rattle.registers.specs.Soundness.{library_sound};
 
 use crate::found::Told;
-use crate::register::Register;
+use crate::register::{ROOM, Register};
 use crate::standing::told;
 use crate::table::standing_of;
 use types::entries::TypeEntry;
@@ -16,7 +16,7 @@ impl Register for Library {
 
     ghost sound = { λ _. library_sound };
 
-    fn ask(&self, name: &[u8], room: &mut [TypeEntry; 128]) -> Option<Told> {
+    fn ask(&self, name: &[u8], room: &mut [TypeEntry; ROOM]) -> Option<Told> {
         let standing = standing_of(name)?;
         Some(told(standing, room))
     }

@@ -5,6 +5,10 @@ ghost use Rattle.registers.specs.Telling.{Tells};
 use crate::found::Told;
 use types::entries::TypeEntry;
 
+// How many entries a register may write of an answer: the parts of the type that it tells. The caller lends an array of
+// them, since the project has fixed memory and no heap.
+pub const ROOM: usize = 128;
+
 pub trait Register {
     // The partial function from names to bindings that the register stands for.
     ghost meaning: { Self → Meaning };
@@ -13,7 +17,7 @@ pub trait Register {
     ghost sound: { (r : Self) → Sound (meaning r) };
 
     // What `name` is bound to, or `None` where it is not bound. The parts of a type are written into `room`.
-    fn ask(&self, name: &[u8], room: &mut [TypeEntry; 128]) -> Option<Told>
+    fn ask(&self, name: &[u8], room: &mut [TypeEntry; ROOM]) -> Option<Told>
         ensures { Tells (meaning self.now name.now) result room.new };
 }
 
@@ -23,7 +27,7 @@ impl<R: Register> Register for &R {
 
     ghost sound = { λ r. R.Register.sound r.now };
 
-    fn ask(&self, name: &[u8], room: &mut [TypeEntry; 128]) -> Option<Told> {
+    fn ask(&self, name: &[u8], room: &mut [TypeEntry; ROOM]) -> Option<Told> {
         (**self).ask(name, room)
     }
 }

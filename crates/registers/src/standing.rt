@@ -6,6 +6,7 @@ ghost use Rattle.registers.specs.Standings.{basic_entry, basic_type, basic_types
 ghost use Rattle.registers.specs.Telling.{MadeIn, Tells};
 
 use crate::found::{Scheme, Told};
+use crate::register::ROOM;
 use types::entries::{Root, TypeEntry};
 
 // A type without parts.
@@ -41,11 +42,11 @@ impl From<Basic> for TypeEntry {
 }
 
 // A function type of types without parts: its parameters are written into `room`, and its result after them.
-fn told_function(parameters: &[Basic], last: Basic, room: &mut [TypeEntry; 128]) -> Root
-    requires { length parameters.now < 128 }
+fn told_function(parameters: &[Basic], last: Basic, room: &mut [TypeEntry; ROOM]) -> Root
+    requires { length parameters.now < ROOM }
     ensures { MadeIn room.new (function (basic_types parameters.now) (basic_type last)) result }
 {
-    // By index: of what is written through `iter_mut`, a proof would know the length alone.
+    // By index: of what is written through `iter_mut` zipped with the parameters, a proof would know the length alone.
     for (i, parameter) in parameters.iter().enumerate() {
         room[i] = TypeEntry::from(*parameter);
     }
@@ -58,16 +59,14 @@ fn told_function(parameters: &[Basic], last: Basic, room: &mut [TypeEntry; 128])
 }
 
 // The binding as a register tells it. The parts of a function type are written into `room`.
-pub fn told(standing: Standing, room: &mut [TypeEntry; 128]) -> Told
+#[tactic(auto, using(crate::proofs::Basics::few_parameters, crate::proofs::Basics::plain_made))]
+pub fn told(standing: Standing, room: &mut [TypeEntry; ROOM]) -> Told
     requires { Fit (binding_of standing) }
     ensures { Tells (Some (binding_of standing)) (Some result) room.new }
 {
     match standing {
         Standing::Scheme(scheme) => Told::Scheme(scheme),
-        Standing::Plain(t) => Told::Typed(Root {
-            entry: TypeEntry::from(t),
-            used: 0,
-        }),
+        Standing::Plain(t) => Told::Typed(Root::without_parts(TypeEntry::from(t))),
         Standing::Function(parameters, last) => Told::Typed(told_function(parameters, last, room)),
     }
 }

@@ -4,12 +4,16 @@
 ghost use Rattle.std.specs.Prelude.{◌≡◌, ◌<◌, ◌≤◌, List, [], ◌∷◌, ◌++◌, length, MatchOption};
 ghost use Rattle.stack.specs.Items.{held, room};
 
+// The caller lends the slots, since the project has fixed memory and no heap: so it is a slice and a count, and no `Vec`.
 #[derive(Drop)]
 pub struct Stack<'a, T> {
     pub slots: &'a mut [T],
+    // how many of them are in use, from the first on
     pub len: usize,
 }
 
+// Each method that changes the stack says that its room stays (`space`): of a stack that a call changes, a proof knows
+// only what the call's clauses tell.
 #[tactic(auto, using(crate::proofs::Laws::stacked))]
 impl<'a, T: Copy> Stack<'a, T> {
     pub fn new(slots: &'a mut [T]) -> Self
@@ -25,7 +29,7 @@ impl<'a, T: Copy> Stack<'a, T> {
         ensures full { room self.old ≤ length (held self.old) → held self.new ≡ held self.old }
         ensures space { room self.new ≡ room self.old }
     {
-        // `get_mut` does not say what a write through it leaves in the slots
+        // By index: of what is written through `get_mut`, a proof would know the length alone.
         if self.len < self.slots.len() {
             self.slots[self.len] = x;
             self.len += 1;

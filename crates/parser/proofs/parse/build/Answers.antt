@@ -41,8 +41,8 @@ loop-t-preserved c =
           grown.few,
     )
 
-pub returns-in_err-position : goal.returns-in_err-position
-returns-in_err-position c =
+pub returns-in_err-position-clause-parses : goal.returns-in_err-position-clause-parses
+returns-in_err-position-clause-parses c =
     let clean = c.requires.clean.1 in
     let g = given c.loop-t.invariant.0 _ _ c.in-Some.is c.in_ok-t.ensures.reads in
     let h = c.loop-t.invariant.5 clean.tokens clean.lexes in
@@ -50,16 +50,16 @@ returns-in_err-position c =
     let told : c.in_err-position.field-0.0 ≡ record { reason = NoProgram; place = c.in-Some.t.at } = grind (arith, c.in_err-position.ensures) in
     let dead = refused_here _ g _ c.into.ensures h clean.lexes (MatchOption-at_none _ _ stuck (c.step.ensures.turns _ _ _ _ (lies_within _ g _ c.into.ensures h) h.sofar.holds)) in
     let p = err_from_is_err_and c.from_residual-in_err-position.result c.from_residual-in_err-position.ensures.1 in
-    rw (p.1, p.2, told) record { lent = c.step.ensures.grown.lent ∙ c.loop-t.invariant.2; parses = (refl, dead) }
+    rw (p.1, p.2, told) (refl, dead)
 
-pub returns-in_err-t : goal.returns-in_err-t
-returns-in_err-t c =
+pub returns-in_err-t-clause-parses : goal.returns-in_err-t-clause-parses
+returns-in_err-t-clause-parses c =
     let clean = c.requires.clean.1 in
     not_stopped _ (stopped_at c.loop-t.invariant.0 c.in_err-t.ensures.reads.0) (c.loop-t.invariant.5 clean.tokens clean.lexes)
 
-pub returns : goal.returns
-returns c =
+pub returns-clause-parses : goal.returns-clause-parses
+returns-clause-parses c =
     let clean = c.requires.clean.1 in
     let h = c.loop-t.invariant.5 clean.tokens clean.lexes in
     let all = all_read (finished_at c.loop-t.invariant.0 _ _ c.in_default.is c.in_ok-t.ensures.reads) h in
-    record { lent = c.loop-t.invariant.2; parses = all_along h all (c.finish.ensures _ clean.tokens refl clean.lexes (omega (arith, clean.count, clean.few))) }
+    all_along h all (c.finish.ensures _ clean.tokens refl clean.lexes (omega (arith, clean.count, clean.few)))
