@@ -24,9 +24,6 @@ use Rattle.checker.proofs.Typings.{one_typing_of_all}
 use Rattle.checker.proofs.Typable.{typing_exists_law}
 use Rattle.checker.proofs.Unmet.{all_met_if_none, none_if_all_met}
 
-pub refuted : {P : Type 0} (b : Bool) → Decides b P → b ≡ false → P → ⊥
-refuted b d e p = false≢true (sym e ∙ d.1 p)
-
 -- tables that are not short are long enough
 pub enough : (s : Sizes) → (Short s → ⊥) → (4096 ≤ s.of_operators) × (4096 ≤ s.of_frames) × (8192 ≤ s.of_types)
 enough s h = (

@@ -56,10 +56,6 @@ module _ {sheet : List ℕ} {Γ : Meaning} where
       let r = last_typed ss xs in
       (ms ++ r.0, r.1, r.2, typed_more x r.3, r.4, ap (λ ns. ms ++ ns) r.5 ∙ sym (append_assoc ms r.0 r.1))
 
-  pub typed_last : {ss : List Expr} {e : Expr} {t : Ty} {ms ls : List Note} → AllTyped sheet Γ ss ms → Typed sheet Γ e t ls → AllTyped sheet Γ (ss ++ e ∷ []) (ms ++ ls)
-  typed_last {e} {ls} typed_none y = subst (λ ns. AllTyped sheet Γ (e ∷ []) ns) (append-nil ls) (typed_more y typed_none)
-  typed_last (typed_more {ms} {ns} x xs) y = rw append_assoc (typed_more x (typed_last xs y))
-
 -- what is noted is few by its load
 
 counts_append : (ms ns : List Note) → (length (conditions (ms ++ ns)) ≡ length (conditions ms) + length (conditions ns)) × (length (types (ms ++ ns)) ≡ length (types ms) + length (types ns))

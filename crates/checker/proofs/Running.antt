@@ -48,7 +48,7 @@ pub performs_as : {s s' : Sizes} (Γ : Meaning) (sheet : List ℕ) (r : Result C
 performs_as Γ sheet r listed es e p = subst (λ s. ReadsAndChecks s Γ sheet r listed es) e p
 
 module _ {s : Sizes} {sheet : List ℕ} {tree : List TreeEntry} {read : Read} (h : Reads s sheet tree (Ok read)) where
-  readable : Readable s sheet h.1.0
+  pub readable : Readable s sheet h.1.0
   readable = record { faultless = h.0; written = h.1.1.written; only = h.1.1.only }
 
   -- a check of what was read is refused for its load alone

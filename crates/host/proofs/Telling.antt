@@ -20,21 +20,13 @@ use Rattle.checker.specs.Checks.{CheckedAs}
 use Rattle.checker.specs.Runs as answer
 use Rattle.checker.specs.Runs.{Readable, AnswersTo, read_refused}
 use Rattle.checker.specs.Outcomes.{refusal_in, refusing}
+use Rattle.checker.proofs.Logging.{few_found as few}
 use Rattle.checker.proofs.Notes.{few_by_load}
 use Rattle.host.specs.Layout.{word, rows, replaced, fitting}
 use Rattle.host.specs.Answers.{tables, Found, Refused, unread, too_heavy, ReadAnswers, is_program, not_read, CheckAnswers, is_checked, is_refused}
 
 pub full : {a b c d : ℕ} → a ≡ 4096 → b ≡ 4096 → c ≡ 4096 → d ≡ 8192 → ◌≡◌ {A = Sizes} (record { of_tree = a; of_operators = b; of_frames = c; of_types = d }) tables
 full e f g h = cc
-
--- a finding tells of a condition
-few : {cs : List Condition} {fs : List Finding} → Findings cs fs → length fs ≤ length cs
-few none = omega arith
-few (met m f) = omega (arith, few f)
-few (unmet m f) = omega (arith, few f)
-
-pub readable : {s : Sizes} {sheet : List ℕ} {tree : List TreeEntry} {read : AnyRead} (h : Reads s sheet tree (Ok read)) → Readable s sheet h.1.0
-readable h = record { faultless = h.0; written = h.1.1.written; only = h.1.1.only }
 
 -- what the program of a checked sheet has
 found_in : {sheet : List ℕ} {ss : List Expr} {c : Checked} {listed : List Finding} {es : List TypeEntry} (d : CheckedAs sheet library ss c listed es) → Found sheet ss d.found c.expressions

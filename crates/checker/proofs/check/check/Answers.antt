@@ -1,10 +1,11 @@
 use Rattle.std.proofs.Common.{◌≤◌, List, sym, refl, ◌∙◌, subst, rules}
+use Rattle.std.proofs.lemmas.Bool.Decides.{not_from_Decides}
 use Rattle.parser.specs.Table.{AllProper, Listed}
 use Rattle.parser.specs.Syntax.{Expr, sizes}
 use Rattle.checker.specs.Rules.{Note, AllTyped}
 use Rattle.checker.specs.Walks.{WalkedOrHeavy}
 use Rattle.checker.specs.Checks.{short_table, damaged}
-use Rattle.checker.proofs.Checking.{refuted, enough, checks_heavy, checks_walked}
+use Rattle.checker.proofs.Checking.{enough, checks_heavy, checks_walked}
 use Rattle.checker.proofs.check.check.Goals as goal
 use Rattle.checker.proofs.check.check.Goals.{then-is_err, else-is_err}
 
@@ -13,14 +14,14 @@ returns-then-is_short-clause-checks g c = rw c.at.ensures (short_table (c.is_sho
 
 pub returns-then-not-proper-clause-checks : goal.returns-then-not-proper-clause-checks
 returns-then-not-proper-clause-checks g c = rw c.at-then-not-proper.ensures (
-  damaged (refuted _ c.is_short.ensures c.if-is_short.false) (λ p. refuted _ c.proper.ensures c.if-not-proper.true (subst (AllProper _ _) (sym c.used.ensures) p)),
+  damaged (not_from_Decides _ c.is_short.ensures c.if-is_short.false) (λ p. not_from_Decides _ c.proper.ensures c.if-not-proper.true (subst (AllProper _ _) (sym c.used.ensures) p)),
   refl,
   c.blank_out.ensures,
 )
 
 pub returns-clause-checks : goal.returns-clause-checks
 returns-clause-checks g c =
-    let long = refuted _ c.is_short.ensures c.if-is_short.false in
+    let long = not_from_Decides _ c.is_short.ensures c.if-is_short.false in
     let e = enough _ long in
     let proper = subst (AllProper _ _) c.used.ensures (c.proper.ensures.0 c.if-not-proper.false) in
     let sound = g.F.Register.sound c.args.first.now in

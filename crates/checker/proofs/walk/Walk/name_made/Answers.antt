@@ -1,9 +1,6 @@
 use Rattle.std.proofs.Common.{◌≡◌, length, arith}
 use Rattle.checker.proofs.walk.Walk.name_made.Goals as goal
 
-pub returns-clause-asked : goal.returns-clause-asked
-returns-clause-asked g c = c.ask_bound.ensures.asked _ c.ask-found.new.room c.ask-found.ensures
-
 pub returns-clause-makes : goal.returns-clause-makes
 returns-clause-makes g c ts tabled =
     let long : length c.ask-found.new.room ≡ 128 = omega arith in
