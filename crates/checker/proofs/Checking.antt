@@ -1,22 +1,28 @@
 -- From a walk to what a check answers. Assumes nothing.
-use Rattle.std.proofs.Common.{◌≡◌, ℕ, ◌≤◌, Bool, false, List, Decides, sym, ◌∙◌, subst, ⊎_elim}
+use Rattle.std.proofs.Common.{◌≡◌, ℕ, ◌≤◌, Bool, true, false, List, length, Ok, Err, Result, Decides, sym, refl, ap, ◌∙◌, subst, ⊎_elim}
+use Rattle.std.specs.Result.{is_err, MatchResult, IsErrAnd}
+use Rattle.std.proofs.lemmas.Result.{err_from_is_err_and}
 use Rattle.std.proofs.lemmas.Bool.{false≢true, cases_lt}
 use Rattle.types.specs.declared.entries.TypeEntry.{TypeEntry}
 use Rattle.registers.specs.Meaning.{Meaning, Sound}
-use Rattle.parser.specs.Syntax.{Expr}
+use Rattle.lexer.specs.declared.reasons.Reason.TheVariants.{HeavySheet}
+use Rattle.lexer.specs.declared.refusal.Refusal.{Refusal}
+use Rattle.parser.specs.declared.reading.Read.{Read}
+use Rattle.parser.specs.declared.tree.TreeEntry.{TreeEntry}
+use Rattle.parser.specs.Syntax.{Expr, sizes}
+use Rattle.parser.specs.Table.{AllProper, Listed}
 use Rattle.parser.specs.Reading.{Written, Sizes, Short, short_operators, short_frames, short_types}
 use Rattle.checker.specs.declared.finding.Finding.{Finding}
 use Rattle.checker.specs.declared.stage.Checked.{Checked}
 use Rattle.checker.specs.Conditions.{AllMet}
 use Rattle.checker.specs.Rules.{Note, AllTyped, conditions}
-use Rattle.checker.specs.Checks.{CheckedAs}
-use Rattle.checker.specs.Walks.{WalkedAs}
+use Rattle.checker.specs.declared.store.TooHeavy.{TooHeavy}
+use Rattle.checker.specs.Findings.{AllBlank}
+use Rattle.checker.specs.Checks.{CheckedAs, too_heavy, Checks}
+use Rattle.checker.specs.Walks.{WalkedAs, WalkedOrHeavy}
 use Rattle.checker.proofs.Typings.{one_typing_of_all}
 use Rattle.checker.proofs.Typable.{typing_exists_law}
 use Rattle.checker.proofs.Unmet.{all_met_if_none, none_if_all_met}
-
-pub refuted : {P : Type 0} (b : Bool) → Decides b P → b ≡ false → P → ⊥
-refuted b d e p = false≢true (sym e ∙ d.1 p)
 
 -- tables that are not short are long enough
 pub enough : (s : Sizes) → (Short s → ⊥) → (4096 ≤ s.of_operators) × (4096 ≤ s.of_frames) × (8192 ≤ s.of_types)
@@ -47,3 +53,28 @@ checked_as sheet Γ ss c listed es sound written walk =
       derived = λ z. record { notes = t.0; typed = t.1; all_met = all_met_if_none w.findings (sym w.count ∙ z) };
       clean = λ d. w.count ∙ none_if_all_met w.findings (subst (λ ms. AllMet (conditions ms)) (one_typing_of_all d.typed t.1) d.all_met);
     }
+
+-- what a check of such a table answers, by what its walk over the program came to, and by how a load that is too high is told
+module _ (s : Sizes) (sheet : List ℕ) (tree : List TreeEntry) (read : Read) (Γ : Meaning) (r : Result Checked TooHeavy) (m : Result Checked (Refusal × Read)) (listed : List Finding) (es : List TypeEntry)
+    (Gives : TooHeavy → Refusal × Read → Type 0) (told : MatchResult r (λ c. m ≡ Ok c) (λ e. IsErrAnd m (Gives e))) (long : Short s → ⊥) (proper : AllProper (length sheet) tree read.used)
+    (sound : Sound Γ) (walk : (ss : List Expr) (ns : List Note) → Listed tree read.last ss → sizes ss ≤ 4096 → AllTyped sheet Γ ss ns → WalkedOrHeavy ns r listed es) where
+  pub checks_heavy : is_err r ≡ true → (blanked : List Finding) → AllBlank blanked → ((e : TooHeavy) (d : Refusal × Read) → Gives e d → d ≡ (record { reason = HeavySheet; place = 0 }, read)) → Checks s sheet tree read Γ m blanked es
+  checks_heavy heavy blanked blank says = go r m told walk heavy
+    where
+      go : (r : Result Checked TooHeavy) (m : Result Checked (Refusal × Read)) → MatchResult r (λ c. m ≡ Ok c) (λ e. IsErrAnd m (Gives e))
+          → ((ss : List Expr) (ns : List Note) → Listed tree read.last ss → sizes ss ≤ 4096 → AllTyped sheet Γ ss ns → WalkedOrHeavy ns r listed es) → is_err r ≡ true → Checks s sheet tree read Γ m blanked es
+      go (Ok c) m t w h = absurd (false≢true h)
+      go (Err e) m t w h =
+          let d = err_from_is_err_and m t in
+          subst (λ x. Checks s sheet tree read Γ x blanked es) (sym (d.1 ∙ ap Err (says e d.0 d.2)))
+          (too_heavy long proper (λ ss ns rep typed. w ss ns rep.listed rep.small typed), refl, blank)
+
+  pub checks_walked : is_err r ≡ false → Checks s sheet tree read Γ m listed es
+  checks_walked light = go r m told walk light
+    where
+      go : (r : Result Checked TooHeavy) (m : Result Checked (Refusal × Read)) → MatchResult r (λ c. m ≡ Ok c) (λ e. IsErrAnd m (Gives e))
+          → ((ss : List Expr) (ns : List Note) → Listed tree read.last ss → sizes ss ≤ 4096 → AllTyped sheet Γ ss ns → WalkedOrHeavy ns r listed es) → is_err r ≡ false → Checks s sheet tree read Γ m listed es
+      go (Err e) m t w h = absurd (false≢true (sym h))
+      go (Ok c) m t w h =
+          subst (λ x. Checks s sheet tree read Γ x listed es) (sym t)
+          (long, proper, λ ss rep. checked_as sheet Γ ss c listed es sound rep.written (λ ns typed. w ss ns rep.listed rep.small typed))

@@ -45,7 +45,8 @@ short [] = omega arith
 short (asks c ∷ ms) = omega (arith, short ms)
 short (has t ∷ ms) = omega (arith, short ms)
 
-few_found : {cs : List Condition} {fs : List Finding} → Findings cs fs → length fs ≤ length cs
+-- a finding tells of a condition
+pub few_found : {cs : List Condition} {fs : List Finding} → Findings cs fs → length fs ≤ length cs
 few_found none = omega arith
 few_found (met h f) = omega (arith, few_found f)
 few_found (unmet h f) = omega (arith, few_found f)

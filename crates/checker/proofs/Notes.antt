@@ -1,13 +1,15 @@
 -- How many notes an expression makes, and the notes of the last statement. Assumes nothing.
-use Rattle.std.proofs.Common.{◌≡◌, ℕ, suc, ◌*◌, ◌≤◌, List, [], ◌∷◌, ◌++◌, length, sym, refl, ap, ◌∙◌, subst, append_assoc, append-nil, arith, length-append}
-use Rattle.types.specs.Types.{Ty}
+use Rattle.std.proofs.Common.{◌≡◌, ℕ, suc, ◌+◌, ◌*◌, ◌≤◌, List, [], ◌∷◌, ◌++◌, length, sym, refl, ap, ◌∙◌, subst, append_assoc, append-nil, arith, length-append}
+use Rattle.types.specs.Types.{Ty, boolean}
+use Rattle.building.proofs.Closed.{some_weight}
 use Rattle.registers.specs.Meaning.{Meaning}
 use Rattle.parser.specs.declared.symbols.Leaf.{Leaf}
 use Rattle.parser.specs.declared.symbols.Prefix.{Prefix}
 use Rattle.parser.specs.declared.symbols.Operator.{Operator}
-use Rattle.parser.specs.Syntax.{Expr, size, sizes}
-use Rattle.checker.specs.Conditions.{Condition}
-use Rattle.checker.specs.Rules.{LeafRule, a_number, a_string, a_true, a_false, a_null, a_name, PrefixRule, a_not, a_negation, a_typeof, InfixRule, arithmetic, comparison, logical, left_number, left_string, right_number, right_string, both_open, Note, ends, Typed, typed_leaf, typed_unary, typed_binary, typed_choice, AllTyped, typed_none, typed_more}
+use Rattle.parser.specs.Syntax.{Expr, place, size, sizes}
+use Rattle.checker.specs.Conditions.{Condition, fits}
+use Rattle.checker.specs.Rules.{LeafRule, a_number, a_string, a_true, a_false, a_null, a_name, PrefixRule, a_not, a_negation, a_typeof, InfixRule, arithmetic, comparison, logical, left_number, left_string, right_number, right_string, both_open, Note, asks, has, ends, conditions, types, Typed, typed_leaf, typed_unary, typed_binary, typed_choice, AllTyped, typed_none, typed_more}
+use Rattle.checker.specs.Findings.{weigh}
 
 ends_length : (cs : List Condition) (t : Ty) → length (ends cs t) ≡ suc (length cs)
 ends_length [] t = refl
@@ -54,6 +56,34 @@ module _ {sheet : List ℕ} {Γ : Meaning} where
       let r = last_typed ss xs in
       (ms ++ r.0, r.1, r.2, typed_more x r.3, r.4, ap (λ ns. ms ++ ns) r.5 ∙ sym (append_assoc ms r.0 r.1))
 
-  pub typed_last : {ss : List Expr} {e : Expr} {t : Ty} {ms ls : List Note} → AllTyped sheet Γ ss ms → Typed sheet Γ e t ls → AllTyped sheet Γ (ss ++ e ∷ []) (ms ++ ls)
-  typed_last {e} {ls} typed_none y = subst (λ ns. AllTyped sheet Γ (e ∷ []) ns) (append-nil ls) (typed_more y typed_none)
-  typed_last (typed_more {ms} {ns} x xs) y = rw append_assoc (typed_more x (typed_last xs y))
+-- what is noted is few by its load
+
+counts_append : (ms ns : List Note) → (length (conditions (ms ++ ns)) ≡ length (conditions ms) + length (conditions ns)) × (length (types (ms ++ ns)) ≡ length (types ms) + length (types ns))
+counts_append [] ns = omega arith
+counts_append (asks c ∷ ms) ns = omega (arith, counts_append ms ns)
+counts_append (has t ∷ ms) ns = omega (arith, counts_append ms ns)
+
+ends_counts : (cs : List Condition) (t : Ty) → (length (conditions (ends cs t)) ≡ length cs) × (length (types (ends cs t)) ≡ 1)
+ends_counts [] t = omega arith
+ends_counts (c ∷ cs) t = omega (arith, ends_counts cs t)
+
+few_types : (ts : List Ty) → length ts ≤ weigh ts
+few_types [] = omega arith
+few_types (t ∷ ts) = omega (arith, some_weight t, few_types ts)
+
+module _ {sheet : List ℕ} {Γ : Meaning} where
+  few_conditions : {e : Expr} {t : Ty} {ns : List Note} → Typed sheet Γ e t ns → length (conditions ns) ≤ 2 * length (types ns)
+  few_conditions (typed_leaf {t} {cs} r) = omega (arith, ends_counts cs t, few_of_leaf r)
+  few_conditions (typed_unary {u} {ns} {cs} x r) = omega (arith, counts_append ns (ends cs u), ends_counts cs u, few_conditions x, few_of_prefix r)
+  few_conditions (typed_binary {u} {ms} {ns} {cs} x y r) =
+      omega (arith, counts_append ms (ns ++ ends cs u), counts_append ns (ends cs u), ends_counts cs u, few_conditions x, few_conditions y, few_of_infix r)
+  few_conditions (typed_choice {a} {r} {u} {ls} {ms} {ns} x y z w) =
+      let cs = fits (place a) r boolean ∷ [] in
+      omega (arith, counts_append ls (ms ++ (ns ++ ends cs u)), counts_append ms (ns ++ ends cs u), counts_append ns (ends cs u), few_conditions x, few_conditions y, few_conditions z)
+
+  few_conditions_of_all : {es : List Expr} {ns : List Note} → AllTyped sheet Γ es ns → length (conditions ns) ≤ 2 * length (types ns)
+  few_conditions_of_all typed_none = omega arith
+  few_conditions_of_all (typed_more {ms} {ns} x xs) = omega (arith, counts_append ms ns, few_conditions x, few_conditions_of_all xs)
+
+  pub few_by_load : {es : List Expr} {ns : List Note} → AllTyped sheet Γ es ns → (length (conditions ns) ≤ 2 * weigh (types ns)) × (length (types ns) ≤ weigh (types ns))
+  few_by_load {ns} x = omega (arith, few_conditions_of_all x, few_types (types ns))

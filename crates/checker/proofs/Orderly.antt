@@ -1,6 +1,5 @@
 -- Entries of a tree table, in order or not. Assumes nothing.
-use Rattle.std.proofs.Common.{◌≡◌, ℕ, ◌+◌, ◌<◌, ◌≤◌, Bool, true, false, List, Option, Decides, ◌⊎◌, inl, inr, sym, refl, subst}
-use Rattle.std.proofs.lemmas.Bool.{both_ways}
+use Rattle.std.proofs.Common.{◌≡◌, ℕ, ◌+◌, ◌<◌, ◌≤◌, Bool, true, List, Option, Decides, ◌⊎◌, inl, inr, sym, refl, subst}
 use Rattle.parser.specs.declared.symbols.Leaf.{Leaf as AnyLeaf}
 use Rattle.parser.specs.declared.symbols.Prefix.{Prefix}
 use Rattle.parser.specs.declared.symbols.Operator.{Operator}
@@ -8,15 +7,9 @@ use Rattle.parser.specs.declared.tree.TreeEntry.{TreeEntry}
 use Rattle.parser.specs.declared.tree.TreeEntry.TheVariants.{Leaf, Unary, Binary, Choice, Statement}
 use Rattle.parser.specs.Table.{Expression, is_leaf, is_unary, is_binary, is_choice, Part, Earlier, Proper, proper_leaf, proper_unary, proper_binary, proper_choice, proper_statement}
 
--- answers
+-- a fact, where it is told
 pub says_yes : {P : Type 0} → P → Decides true P
 says_yes p = (λ e. p, λ q. refl)
-
-pub says_no : {P : Type 0} → (P → ⊥) → Decides false P
-says_no f = (λ e. absurd (both_ways false refl e), λ p. absurd (f p))
-
-pub refuted : {P : Type 0} → Decides false P → P → ⊥
-refuted d p = both_ways false refl (d.1 p)
 
 -- the entry of an expression
 pub an_expression : {e : TreeEntry} → ((l : AnyLeaf) × (p n : ℕ) × (e ≡ Leaf l p n)) ⊎ (((op : Prefix) × (p j : ℕ) × (e ≡ Unary op p j)) ⊎ (((op : Operator) × (j k : ℕ) × (e ≡ Binary op j k)) ⊎ ((j k l : ℕ) × (e ≡ Choice j k l)))) → Expression e

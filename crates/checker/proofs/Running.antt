@@ -26,7 +26,7 @@ use Rattle.checker.specs.Rules.{types}
 use Rattle.checker.specs.Checks as checks
 use Rattle.checker.specs.Checks.{CheckedAs, Refuses, Checks}
 use Rattle.checker.specs.Runs.{Readable, Law, AnswersTo, read_refused, too_heavy, checked, Answers, sheet_of, Left, nothing_left, checked_left, Lawful}
-use Rattle.checker.specs.Performing.{Performs, refusing, saying}
+use Rattle.checker.specs.Outcomes.{ReadsAndChecks, refusing, saying}
 
 -- tables that are given back have their sizes
 pub same_sizes : {n m : ℕ} {t u : Tables} → n ≡ m → Lent t u → sizes_of n u ≡ sizes_of m t
@@ -44,11 +44,11 @@ lent_twice a b = record {
   types = (b.types.0 ∙ a.types.0, b.types.1 ∙ a.types.1);
 }
 
-pub performs_as : {s s' : Sizes} (Γ : Meaning) (sheet : List ℕ) (r : Result Checked Refused) (listed : List Finding) (es : List TypeEntry) → s ≡ s' → Performs s Γ sheet r listed es → Performs s' Γ sheet r listed es
-performs_as Γ sheet r listed es e p = subst (λ s. Performs s Γ sheet r listed es) e p
+pub performs_as : {s s' : Sizes} (Γ : Meaning) (sheet : List ℕ) (r : Result Checked Refused) (listed : List Finding) (es : List TypeEntry) → s ≡ s' → ReadsAndChecks s Γ sheet r listed es → ReadsAndChecks s' Γ sheet r listed es
+performs_as Γ sheet r listed es e p = subst (λ s. ReadsAndChecks s Γ sheet r listed es) e p
 
 module _ {s : Sizes} {sheet : List ℕ} {tree : List TreeEntry} {read : Read} (h : Reads s sheet tree (Ok read)) where
-  readable : Readable s sheet h.1.0
+  pub readable : Readable s sheet h.1.0
   readable = record { faultless = h.0; written = h.1.1.written; only = h.1.1.only }
 
   -- a check of what was read is refused for its load alone
@@ -59,10 +59,10 @@ module _ {s : Sizes} {sheet : List ℕ} {tree : List TreeEntry} {read : Read} (h
 
   -- what the check of what was read comes to, its refusal said as a call's
   pub performs_check : (Γ : Meaning) (s' : Sizes) (listed : List Finding) (es : List TypeEntry) (Gives : Refusal × Read → Refused → Type 0) (r : Result Checked (Refusal × Read)) (m : Result Checked Refused)
-      → s' ≡ s → Checks s' sheet tree read Γ r listed es → MatchResult r (λ c. m ≡ Ok c) (λ e. IsErrAnd m (Gives e)) → ((e : Refusal × Read) (d : Refused) → Gives e d → d ≡ Check e.0) → Performs s Γ sheet m listed es
-  performs_check Γ s' listed es Gives (Ok c) m same k t says = subst (λ x. Performs s Γ sheet x listed es) (sym t) (h.1.0, readable, k.2 h.1.0 h.1.1)
+      → s' ≡ s → Checks s' sheet tree read Γ r listed es → MatchResult r (λ c. m ≡ Ok c) (λ e. IsErrAnd m (Gives e)) → ((e : Refusal × Read) (d : Refused) → Gives e d → d ≡ Check e.0) → ReadsAndChecks s Γ sheet m listed es
+  performs_check Γ s' listed es Gives (Ok c) m same k t says = subst (λ x. ReadsAndChecks s Γ sheet x listed es) (sym t) (h.1.0, readable, k.2 h.1.0 h.1.1)
   performs_check Γ s' listed es Gives (Err e) m same k t says =
-      let d = err_from_is_err_and m t in subst (λ x. Performs s Γ sheet x listed es) (sym (d.1 ∙ ap Err (says e d.0 d.2))) (refused_heavy s' same k.0)
+      let d = err_from_is_err_and m t in subst (λ x. ReadsAndChecks s Γ sheet x listed es) (sym (d.1 ∙ ap Err (says e d.0 d.2))) (refused_heavy s' same k.0)
 
 -- what a reading came to, its refusal said as a call's
 pub was_read : (s : Sizes) (sheet : List ℕ) (tree : List TreeEntry) (read : Read) (r : Result Read Refusal) → Reads s sheet tree r → MatchResult r (λ x. ◌≡◌ {A = Result Read Refused} (Ok read) (Ok x)) (λ e. ⊥) → Reads s sheet tree (Ok read)
@@ -90,20 +90,20 @@ law_of k = record {
   same_types = λ d. ap types (k.alone d.notes d.typed);
 }
 
-answers : (s : Sizes) (Γ : Meaning) (sheet : List ℕ) (r : Result Checked Refused) (listed : List Finding) (es : List TypeEntry) → Performs s Γ sheet r listed es → AnswersTo s Γ sheet (saying r)
+answers : (s : Sizes) (Γ : Meaning) (sheet : List ℕ) (r : Result Checked Refused) (listed : List Finding) (es : List TypeEntry) → ReadsAndChecks s Γ sheet r listed es → AnswersTo s Γ sheet (saying r)
 answers s Γ sheet (Ok c) listed es p = checked p.0 p.1 (law_of p.2)
 answers s Γ sheet (Err a) listed es p = p
 
-answers_call : (s : Sizes) (Γ Δ : Meaning) (c : Call) (r : Result Checked Refused) (listed : List Finding) (es : List TypeEntry) → Performs s Γ (sheet_of c) r listed es → Answers s Γ Δ c (saying r)
+answers_call : (s : Sizes) (Γ Δ : Meaning) (c : Call) (r : Result Checked Refused) (listed : List Finding) (es : List TypeEntry) → ReadsAndChecks s Γ (sheet_of c) r listed es → Answers s Γ Δ c (saying r)
 answers_call s Γ Δ (CheckCall sheet) r listed es p = answers s Γ sheet.now r listed es p
 
 -- what is left of a call
-leaves : (s : Sizes) (Γ : Meaning) (sheet : List ℕ) (r : Result Checked Refused) (listed : List Finding) (es : List TypeEntry) → Performs s Γ sheet r listed es → Left s Γ sheet listed es (result_ok r)
+leaves : (s : Sizes) (Γ : Meaning) (sheet : List ℕ) (r : Result Checked Refused) (listed : List Finding) (es : List TypeEntry) → ReadsAndChecks s Γ sheet r listed es → Left s Γ sheet listed es (result_ok r)
 leaves s Γ sheet (Ok c) listed es p = checked_left p.0 p.1 p.2
 leaves s Γ sheet (Err a) listed es p = nothing_left
 
 pub lawful_more : (s : Sizes) (Γ Δ : Meaning) (calls : List Call) (said told : List Answer) (n m : ℕ) {listed : List Finding} {es : List TypeEntry} {last : Option Checked} (d : Call) (r : Result Checked Refused) (a : Answer) (listed' : List Finding) (es' : List TypeEntry) (last' : Option Checked)
-    → Lawful s Γ Δ calls said told n listed es last → n < m → m ≤ length calls → m ≤ length told → Performs s Γ (sheet_of (get_or (take m calls) n d)) r listed' es' → a ≡ saying r → last' ≡ result_ok r
+    → Lawful s Γ Δ calls said told n listed es last → n < m → m ≤ length calls → m ≤ length told → ReadsAndChecks s Γ (sheet_of (get_or (take m calls) n d)) r listed' es' → a ≡ saying r → last' ≡ result_ok r
     → Lawful s Γ Δ calls said (set told n a) (n + 1) listed' es' last'
 lawful_more s Γ Δ calls said told n m d r a listed' es' last' h here one within q is ok = record {
   law = λ i e l. ⊎_elim
@@ -119,5 +119,5 @@ lawful_more s Γ Δ calls said told n m d r a listed' es' last' h here one withi
     call : (e : Call) → get_or calls n e ≡ get_or calls n d
     call e = get_or_default calls n e d (omega arith)
 
-    p : Performs s Γ (sheet_of (get_or calls n d)) r listed' es'
-    p = subst (λ x. Performs s Γ (sheet_of x) r listed' es') (get_or-take m calls n d here) q
+    p : ReadsAndChecks s Γ (sheet_of (get_or calls n d)) r listed' es'
+    p = subst (λ x. ReadsAndChecks s Γ (sheet_of x) r listed' es') (get_or-take m calls n d here) q

@@ -152,8 +152,3 @@ module _ (s : Store) (m : Root) (t : Ty) {ts : List Ty} (tabled : Tabled s ts) (
               let there = ap (entry_at (entries r)) place ∙ (ap (λ es. entry_at es (8191 - s.count)) put ∙ get_or-set_same (entries s) (8191 - s.count) m.entry _ (omega (arith, tabled.size))) in
               subst (λ u. Is (entries r) r.used (entry_at (entries r) (8191 - k)) u) (sym (get_or_push ts t any k (sym here)))
               (subst (λ e. Is (entries r) r.used e t) (sym there) (moved h.holds))
-
-  -- or the load is too high
-  pub too_heavy : (8192 < s.load) ⊎ (8192 - s.load < w) → 8192 < weigh ts + weight t
-  too_heavy (inl a) = absurd (omega (arith, tabled.within))
-  too_heavy (inr a) = omega (arith, tabled.within, tabled.load)

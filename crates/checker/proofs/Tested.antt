@@ -1,5 +1,6 @@
 -- Types in hand, and the conditions on them. Assumes nothing.
 use Rattle.std.proofs.Common.{◌≡◌, ℕ, Bool, true, false, ◌⊎◌, List, ℤ, refl, subst, inl, inr, ⊎_elim, arith}
+use Rattle.std.proofs.lemmas.Bool.Decides.{not_from_Decides}
 use Rattle.types.specs.declared.entries.TypeEntry.{TypeEntry}
 use Rattle.types.specs.declared.entries.TypeEntry.TheVariants.{Number, NumberLiteral, String, StringLiteral}
 use Rattle.types.specs.Values.{Value}
@@ -9,7 +10,7 @@ use Rattle.checker.specs.Conditions.{Compare, Comparable, two_numbers, two_strin
 use Rattle.checker.specs.Rules as rules
 use Rattle.checker.specs.Rules.{Numeric, Textual, number_or_string}
 use Rattle.checker.specs.Entries.{SaysNumberOrString, SaysBothMeet, SaysCompare, SaysNumeric, SaysTextual}
-use Rattle.checker.proofs.Orderly.{says_yes, refuted}
+use Rattle.checker.proofs.Orderly.{says_yes}
 
 -- a number or a string
 number_fits : {s : Ty} → Meet s number → Meet s number_or_string
@@ -30,7 +31,7 @@ module _ {es : List TypeEntry} {n : ℕ} {e : TypeEntry} where
   pub meets_string : {r : Bool} → SaysMeet es n e 0 Number false → SaysMeet es n e 0 String r → SaysNumberOrString es n e r
   meets_string c d le s x =
       let y = d le (omega arith) s string x is_string in
-      (λ p. string_fits (y.0 p), λ m. ⊎_elim (λ a. absurd (refuted (c le (omega arith) s number x is_number) a)) (λ a. y.1 a) (one_of_two m))
+      (λ p. string_fits (y.0 p), λ m. ⊎_elim (λ a. absurd (not_from_Decides false (c le (omega arith) s number x is_number) refl a)) (λ a. y.1 a) (one_of_two m))
 
 -- two numbers or two strings
 numbers_compare : {s t : Ty} → Meet s number × Meet t number → Compare s t
@@ -51,7 +52,7 @@ module _ {es : List TypeEntry} {n m : ℕ} {a b : TypeEntry} where
   two_meet_string c d le lf s t x y =
       let z = d le lf s t string x y is_string in (
         λ p. strings_compare (z.0 p),
-        λ m. ⊎_elim (λ f. absurd (refuted (c le lf s t number x y is_number) f)) (λ f. z.1 f) (both_of_one m.of_one m.of_other m.can),
+        λ m. ⊎_elim (λ f. absurd (not_from_Decides false (c le lf s t number x y is_number) refl f)) (λ f. z.1 f) (both_of_one m.of_one m.of_other m.can),
       )
 
 -- `number` and number literals, `string` and string literals

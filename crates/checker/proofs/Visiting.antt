@@ -1,9 +1,11 @@
 -- One lemma for each entry of the tree that the walk visits. Assumes nothing.
-use Rattle.std.proofs.Common.{◌≡◌, ℕ, suc, ◌+◌, ◌≤◌, List, [], ◌∷◌, ◌++◌, reverse, length, Some, None, Option, sym, refl, ap, ◌∙◌, subst, append_assoc, arith, length-append}
+use Rattle.std.proofs.Common.{◌≡◌, ℕ, suc, ◌+◌, ◌≤◌, List, [], ◌∷◌, ◌++◌, ◌<◌, reverse, length, Ok, Err, Result, Some, None, Option, sym, refl, ap, ◌∙◌, subst, append_assoc, arith, length-append}
 use Rattle.std.proofs.lemmas.List.{length-reverse}
 use Rattle.std.proofs.lemmas.Option.{none-some, same_Some}
-use Rattle.stack.specs.Items.{held}
+use Rattle.std.specs.Result.{IsErr}
+use Rattle.stack.specs.Items.{held, room}
 use Rattle.types.specs.Types.{Ty}
+use Rattle.types.specs.declared.entries.Root.{Root}
 use Rattle.registers.specs.Meaning.{Meaning, Sound}
 use Rattle.parser.specs.declared.symbols.Leaf.{Leaf as AnyLeaf}
 use Rattle.parser.specs.declared.symbols.Prefix.{Prefix}
@@ -19,14 +21,20 @@ use Rattle.checker.specs.declared.walk.Walk.{Walk}
 use Rattle.checker.specs.declared.finding.Finding.{Finding}
 use Rattle.checker.specs.declared.first.First.{First}
 use Rattle.checker.specs.declared.store.Store.{Store}
+use Rattle.checker.specs.declared.store.TooHeavy.{TooHeavy}
 use Rattle.parser.specs.declared.symbols.Leaf.TheVariants.{Name}
 use Rattle.checker.specs.Conditions.{Condition, bound}
 use Rattle.checker.specs.Rules.{part, type_of, LeafRule, a_number, a_string, a_true, a_false, a_null, a_name, Note, ends, Typed, typed_leaf, typed_unary, typed_binary, typed_choice, AllTyped, typed_none}
+use Rattle.checker.specs.Askings.{AsksName}
+use Rattle.checker.specs.Makings.{MakesName, MakesLiteral}
+use Rattle.checker.specs.Stores.{Tabled, Ready}
 use Rattle.checker.specs.Owing.{Opd, exprs, turns, Owes, owes_none, owes_statements, owes_expression, owes_unary, owes_binary, owes_choice, Going, going}
-use Rattle.checker.specs.Standing.{Pushed, State, state, Goes}
+use Rattle.checker.specs.Standing.{Pushed, State, state, SameLoans, Asks, Goes, Ending, Ends, Stands, Onward}
 use Rattle.checker.proofs.Notes.{last_typed}
 use Rattle.checker.proofs.Typable.{leaf_form}
-use Rattle.checker.proofs.Walking.{Finishing}
+use Rattle.checker.proofs.Logging.{asks_none, asks_as}
+use Rattle.checker.proofs.Madely.{ready_as}
+use Rattle.checker.proofs.Walking.{failed, Finishing, finished, finished_heavy}
 
 pub size_pos : (e : Expr) → 1 ≤ size e
 size_pos (syntax.leaf l p n) = omega arith
@@ -177,6 +185,64 @@ literal_asks other a_name = absurd (other refl)
 
 pub name_rule : {sheet : List ℕ} {Γ : Meaning} {p n : ℕ} {t : Ty} {cs : List Condition} → LeafRule sheet Γ p n Name t cs → (t ≡ type_of (Γ (part sheet p n))) × (cs ≡ bound p (Γ (part sheet p n)) ∷ [])
 name_rule a_name = (refl, refl)
+
+-- the conditions of a token were asked and its type was made, while frames and operands stayed
+pub record TokenMade (sheet : List ℕ) (Γ : Meaning) (p n : ℕ) (l : AnyLeaf) (w v : Walk) (f g : First Finding) (s r : Store) (m : Result Root TooHeavy) : Type 0 where
+  pub frames : v.frames ≡ w.frames
+  pub operators : v.operators ≡ w.operators
+  pub lent : SameLoans (state w f s) (state v g r)
+  pub made : (ts : List Ty) (t : Ty) (cs : List Condition) → Tabled s ts → LeafRule sheet Γ p n l t cs → Asks f cs g × Ready s r t m
+
+module _ {sheet : List ℕ} {Γ : Meaning} {p n : ℕ} {l : AnyLeaf} {text : List ℕ} (same : text ≡ part sheet p n) where
+  pub name_made : (w v : Walk) {f g : First Finding} {s r : Store} {m : Result Root TooHeavy} → l ≡ Name → v ≡ record w { room = v.room } → SameLoans (state w f s) (state v g r)
+      → AsksName f Γ p text g → MakesName s Γ text r m → TokenMade sheet Γ p n l w v f g s r m
+  name_made w v {f} {g} {s} {r} {m} is rest lent asks makes = record {
+    frames = ap (λ x. x.frames) rest;
+    operators = ap (λ x. x.operators) rest;
+    lent = lent;
+    made = λ ts t cs tabled rule.
+        let x = name_rule (subst (λ k. LeafRule sheet Γ p n k t cs) is rule) in
+        (asks_as _ _ x.1 (subst (λ b. Asks f (bound p (Γ b) ∷ []) g) same asks), ready_as _ _ _ x.0 (subst (λ b. Ready s r (type_of (Γ b)) m) same (makes ts tabled)));
+  }
+
+  pub literal_made : (w : Walk) {f : First Finding} {s r : Store} {m : Result Root TooHeavy} → (l ≡ Name → ⊥) → r.entries.ghost_name ≡ s.entries.ghost_name → MakesLiteral s l text r m → TokenMade sheet Γ p n l w w f f s r m
+  literal_made w other lent makes = record {
+    frames = refl;
+    operators = refl;
+    lent = (refl, lent);
+    made = λ ts t cs tabled rule. (asks_as _ _ (literal_asks other rule) asks_none, makes ts sheet Γ p n t cs tabled same other rule);
+  }
+
+pub token_as : {sheet : List ℕ} {Γ : Meaning} {p n : ℕ} {l : AnyLeaf} {w v v' : Walk} {f g g' : First Finding} {s r r' : Store} {m m' : Root}
+    → v ≡ v' → g ≡ g' → r ≡ r' → m ≡ m' → TokenMade sheet Γ p n l w v' f g' s r' (Ok m') → TokenMade sheet Γ p n l w v f g s r (Ok m)
+token_as {sheet} {Γ} {p} {n} {l} {w} {v} {v'} {f} {g} {g'} {s} {r} {r'} {m} {m'} a b c d k =
+    subst (λ x. TokenMade sheet Γ p n l w x f g s r (Ok m)) (sym a)
+    (subst (λ x. TokenMade sheet Γ p n l w v' f x s r (Ok m)) (sym b)
+    (subst (λ x. TokenMade sheet Γ p n l w v' f g' s x (Ok m)) (sym c)
+    (subst (λ x. TokenMade sheet Γ p n l w v' f g' s r' (Ok x)) (sym d) k)))
+
+module _ {sheet : List ℕ} {Γ : Meaning} {table : List TreeEntry} {i p n : ℕ} {l : AnyLeaf} (w v : Walk) {f g : First Finding} {s r : Store} (q : tree_at table i ≡ entry.Leaf l p n) where
+  -- there was no room for its type
+  pub token_failed : {e : TooHeavy} {b : Result (Unit {0}) TooHeavy} → TokenMade sheet Γ p n l w v f g s r (Err e) → IsErr b → Onward sheet Γ table (Expression i) (state w f s) (state v g r) b
+  token_failed k is = record {
+    lent = k.lent;
+    onward = λ whole left sound h.
+        let t = leaf_going h.notes (visiting h.notes _ q h.goes) in
+        failed (Stands sheet Γ table whole left (state v g r)) is (λ e. finished_heavy (leaf_finishing _ sound h t.2 t.3) (k.made _ _ _ h.tabled t.2).1);
+  }
+
+  -- or it has ended with its type
+  pub token_ended : {m : Root} {x : Walk} {y : Store} {b : Result (Unit {0}) TooHeavy} → TokenMade sheet Γ p n l w v f g s r (Ok m) → Ends v r p m x y b → Onward sheet Γ table (Expression i) (state w f s) (state x g y) b
+  token_ended {m} {x} {y} k e = record {
+    lent = (k.lent.0, e.lent ∙ k.lent.1);
+    onward = λ whole left sound h.
+        let t = leaf_going h.notes (visiting h.notes _ q h.goes) in
+        let z = k.made _ _ _ h.tabled t.2 in
+        e.ends sheet Γ table whole left g t.0
+        (subst (λ c. Ending sheet Γ table whole left (held c) (state v g r) p t.0) (sym k.frames)
+        (finished _ _ _ _ _ _ _ (leaf_finishing _ sound h t.2 t.3) (ap held k.operators) (ap room k.operators) k.frames z.0 z.1))
+        z.1.in_hand;
+  }
 
 -- the same tables, and less to do
 pub goes_with : {sheet : List ℕ} {Γ : Meaning} {table : List TreeEntry} {whole : List Note} {left : ℕ} {fs gs : List WalkFrame} {w : State} (g : Goes sheet Γ table whole (suc left) gs w) → Going sheet Γ table whole left fs g.operands g.notes → Goes sheet Γ table whole left fs w

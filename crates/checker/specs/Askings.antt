@@ -3,7 +3,7 @@ use Rattle.std.specs.Prelude.{◌≡◌, ℕ, ◌≤◌, Bool, List, [], ◌∷�
 use Rattle.types.specs.declared.entries.TypeEntry.{TypeEntry}
 use Rattle.types.specs.Types.{Ty}
 use Rattle.registers.specs.declared.found.Told.{Told}
-use Rattle.registers.specs.Meaning.{Binding}
+use Rattle.registers.specs.Meaning.{Binding, Meaning}
 use Rattle.registers.specs.Telling.{Tells}
 use Rattle.types.specs.Table.{Is}
 use Rattle.parser.specs.declared.symbols.Prefix.{Prefix}
@@ -56,3 +56,7 @@ SaysBound found r = (o : Option Binding) (room : List TypeEntry) → Tells o fou
 -- whether the name at a place is bound, by what a register told
 abbrev pub AsksBound : First Finding → ℕ → Option Told → First Finding → Type 0
 AsksBound f place found g = (o : Option Binding) (room : List TypeEntry) → Tells o found room → Asks f (bound place o ∷ []) g
+
+-- the same by what the register stands for
+abbrev pub AsksName : First Finding → Meaning → ℕ → List ℕ → First Finding → Type 0
+AsksName f Γ place name g = Asks f (bound place (Γ name) ∷ []) g

@@ -15,4 +15,4 @@ pub mod Orders
 pub mod Checks
 pub mod Walks
 pub mod Runs
-pub mod Performing
+pub mod Outcomes

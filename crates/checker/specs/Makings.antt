@@ -36,6 +36,10 @@ MakesLiteral s leaf text r m =
 abbrev pub MakesFound : Store → Option Told → List TypeEntry → Store → Result Root TooHeavy → Type 0
 MakesFound s found room r m = (ts : List Ty) (o : Option Binding) → Tabled s ts → length room ≡ 128 → Tells o found room → Ready s r (type_of o) m
 
+-- the same of a name, by what the register stands for
+abbrev pub MakesName : Store → Meaning → List ℕ → Store → Result Root TooHeavy → Type 0
+MakesName s Γ name r m = (ts : List Ty) → Tabled s ts → Ready s r (type_of (Γ name)) m
+
 abbrev pub MakesNumber : Store → List ℕ → Result Root TooHeavy → Type 0
 MakesNumber s text m = (ts : List Ty) (d : Decimal) → Tabled s ts → Numeral text d → Ready s s (number_literal d) m
 

@@ -49,8 +49,8 @@ abbrev pub state : Walk → First Finding → Store → State
 state w f s = record { frames = w.frames; operators = w.operators; findings = f; store = s }
 
 -- what was lent is the same
-abbrev pub Lent : State → State → Type 0
-Lent w v = (v.findings.slots.ghost_name ≡ w.findings.slots.ghost_name) × (v.store.entries.ghost_name ≡ w.store.entries.ghost_name)
+abbrev pub SameLoans : State → State → Type 0
+SameLoans w v = (v.findings.slots.ghost_name ≡ w.findings.slots.ghost_name) × (v.store.entries.ghost_name ≡ w.store.entries.ghost_name)
 
 -- the findings of the conditions are kept
 pub record Tells (f : First Finding) (cs : List Condition) : Type 0 where
@@ -101,7 +101,7 @@ pub record Ends (w : Walk) (s : Store) (p : ℕ) (m : Root) (v : Walk) (t : Stor
 
 -- the frame f has been seen to
 pub record Onward (sheet : List ℕ) (Γ : Meaning) (table : List TreeEntry) (f : WalkFrame) (w v : State) (r : Result (Unit {0}) TooHeavy) : Type 0 where
-  pub lent : Lent w v
+  pub lent : SameLoans w v
   pub onward : (whole : List Note) (left : ℕ) → Sound Γ → Goes sheet Γ table whole (suc left) (f ∷ held w.frames) w → Stands sheet Γ table whole left v r
 
 -- the frames xs were put on top, one after the other
@@ -125,5 +125,5 @@ Told whole w (Err e) = 8192 < weigh (types whole)
 
 -- from frames that owe them in at most 8,192 steps, the notes come to be told
 pub record Runs (sheet : List ℕ) (Γ : Meaning) (table : List TreeEntry) (w v : State) (r : Result (Unit {0}) TooHeavy) : Type 0 where
-  pub lent : Lent w v
+  pub lent : SameLoans w v
   pub runs : (whole : List Note) → Sound Γ → Goes sheet Γ table whole 8192 (held w.frames) w → Told whole v r

@@ -44,10 +44,7 @@ impl<'a> First<'a, Finding> {
         ensures lent { self.new.slots.ghost_name ≡ self.old.slots.ghost_name }
         ensures asked { AsksFits self.old store.now v asked self.new }
     {
-        let asked = Root {
-            entry: asked,
-            used: 0,
-        };
+        let asked = Root::without_parts(asked);
         let met = meets(store.entries, store.plain(v.entry), asked);
         self.ask(met, Kind::Clash, v.place);
     }

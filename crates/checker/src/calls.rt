@@ -11,7 +11,7 @@ pub enum Call<'a> {
 // What one call answers.
 #[derive(Clone, Copy)]
 pub enum Answer {
-    // no call was made
+    // no call was made: a lent list has to hold something before there is an answer
     Blank,
     // the sheet could not be read
     ReadRefused(Refusal),

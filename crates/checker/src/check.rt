@@ -15,11 +15,12 @@ use lexer::refusal::Refusal;
 use parser::reading::Read;
 use parser::tables::Tables;
 use parser::tree::{OperatorEntry, TreeEntry, WalkFrame};
-use registers::register::Register;
+use registers::register::{ROOM, Register};
 use stack::Stack;
 use types::entries::TypeEntry;
 
-// Walks over the statement at an index, if there is one, and those before it.
+// Walks over the statement at an index, if there is one, and those before it. It takes slices: a proof loses sight of a table
+// that is lent on inside a struct.
 fn walk_over<'a, R: Register>(
     source: &Source<R>,
     last: Option<usize>,
@@ -33,7 +34,7 @@ fn walk_over<'a, R: Register>(
     let mut w = Walk {
         frames: Stack::new(frames),
         operators: Stack::new(operators),
-        room: [TypeEntry::Unused; 128],
+        room: [TypeEntry::Unused; ROOM],
     };
     let mut found = First {
         slots: findings,
@@ -76,18 +77,16 @@ pub fn check<F: Register, S: Register>(
         tree,
         names: first,
     };
-    match walk_over(
+    let walked = walk_over(
         &source,
         reading.last(),
         tables.operators,
         tables.frames,
         tables.types,
         findings,
-    ) {
-        Ok(checked) => Ok(checked),
-        Err(TooHeavy) => {
-            blank_out(findings, BLANK);
-            Err((Reason::HeavySheet.at(0), reading))
-        }
+    );
+    if walked.is_err() {
+        blank_out(findings, BLANK);
     }
+    walked.map_err(|_| (Reason::HeavySheet.at(0), reading))
 }

@@ -4,28 +4,19 @@ ghost use Rattle.checker.specs.Entries.{SaysBothMeet, SaysCompare, SaysNumberOrS
 use types::entries::{Root, TypeEntry};
 use types::meeting::meets;
 
-const NUMBER: Root = Root {
-    entry: TypeEntry::Number,
-    used: 0,
-};
-
-const STRING: Root = Root {
-    entry: TypeEntry::String,
-    used: 0,
-};
-
 // Whether a type has a number or a string among its values.
 pub fn meets_number_or_string(types: &[TypeEntry], v: Root) -> bool
     ensures { SaysNumberOrString types.now v.used v.entry result }
 {
-    meets(types, v, NUMBER) || meets(types, v, STRING)
+    meets(types, v, Root::without_parts(TypeEntry::Number))
+        || meets(types, v, Root::without_parts(TypeEntry::String))
 }
 
 // Whether two types both meet a third one, which has no parts.
 fn both_meet(types: &[TypeEntry], a: Root, b: Root, e: TypeEntry) -> bool
     ensures { SaysBothMeet types.now a.used a.entry b.used b.entry e result }
 {
-    let asked = Root { entry: e, used: 0 };
+    let asked = Root::without_parts(e);
     meets(types, a, asked) && meets(types, b, asked)
 }
 

@@ -5,7 +5,7 @@ ghost use Rattle.checker.specs.Findings.{number_of};
 // The discriminants are the numbers by which findings are reported.
 #[derive(Clone, Copy, PartialEq, Eq, Debug)]
 pub enum Kind {
-    // no finding
+    // no finding: a lent list, of whatever length, has to hold something
     Blank = 0,
     // a type condition or comparison that is not met
     Clash = 1,

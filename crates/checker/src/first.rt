@@ -5,7 +5,8 @@ ghost use Rattle.checker.specs.Keeping.{Keeps};
 
 use crate::finding::Finding;
 
-// The list is lent and may be short, so the count, which is of all entries, stands beside it.
+// The list is lent and may be short, so the count, which is of all entries, stands beside it. By the clauses `lent` of the
+// methods it is still the caller's, who finds there what they wrote.
 #[derive(Drop)]
 pub struct First<'a, T> {
     pub slots: &'a mut [T],

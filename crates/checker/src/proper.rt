@@ -42,10 +42,7 @@ fn is_part(tree: &[TreeEntry], i: usize, j: usize) -> bool
 fn is_earlier(tree: &[TreeEntry], i: usize, before: Option<usize>) -> bool
     ensures { Decides result (Earlier tree.now i before) }
 {
-    match before {
-        Some(k) => k < i && is_statement(entry_at(tree, k)),
-        None => true,
-    }
+    before.is_none_or(|k| k < i && is_statement(entry_at(tree, k)))
 }
 
 // Whether `len` bytes from `place` on, and at least one byte, lie in the sheet.

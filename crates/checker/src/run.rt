@@ -1,7 +1,7 @@
 // Whole runs of calls.
 ghost use Rattle.std.specs.Prelude.{◌≡◌, length};
 ghost use Rattle.parser.specs.Lending.{Lent, sizes_of};
-ghost use Rattle.checker.specs.Performing.{Performs, refusing, saying};
+ghost use Rattle.checker.specs.Outcomes.{ReadsAndChecks, refusal_in, refusing, saying};
 ghost use Rattle.checker.specs.Runs.{RunsLawfully, sheet_of};
 
 use crate::calls::{Answer, Call};
@@ -16,11 +16,22 @@ use registers::register::Register;
 
 // Why a sheet was not checked.
 #[derive(Clone, Copy)]
-enum Refused {
+pub enum Refused {
     // it could not be read
     Read(Refusal),
     // it was read, and could not be checked
     Check(Refusal),
+}
+
+// The refusal, whichever step it came from.
+impl From<Refused> for Refusal {
+    ghost from_gives = { λ refused refusal. refusal ≡ refusal_in refused };
+
+    fn from(refused: Refused) -> Refusal {
+        match refused {
+            Refused::Read(e) | Refused::Check(e) => e,
+        }
+    }
 }
 
 impl From<Refused> for Answer {
@@ -34,8 +45,8 @@ impl From<Refused> for Answer {
     }
 }
 
-// Reads a sheet, and checks it.
-fn read_and_check<F: Register, S: Register>(
+// Reads a sheet, and checks it in the scope of the first register, as `check` does.
+pub fn read_and_check<F: Register, S: Register>(
     sheet: &[u8],
     first: &F,
     second: &S,
@@ -43,7 +54,7 @@ fn read_and_check<F: Register, S: Register>(
     tables: &mut Tables<'_>,
     findings: &mut [Finding],
 ) -> Result<Checked, Refused>
-    ensures performs { Performs (sizes_of (length tree.old) tables.old) (F.Register.meaning first.now) sheet.now result findings.new tables.new.types.now }
+    ensures checks { ReadsAndChecks (sizes_of (length tree.old) tables.old) (F.Register.meaning first.now) sheet.now result findings.new tables.new.types.now }
     ensures lent { Lent tables.old tables.new }
 {
     let reading = read(sheet, tree, tables).map_err(Refused::Read)?;
@@ -51,7 +62,7 @@ fn read_and_check<F: Register, S: Register>(
 }
 
 impl Call<'_> {
-    // Makes the call.
+    // Makes the call. It goes by an enum, not by a closure: the calls lie in a lent slice, so they are plain data.
     fn perform<F: Register, S: Register>(
         self,
         first: &F,
@@ -60,7 +71,7 @@ impl Call<'_> {
         tables: &mut Tables<'_>,
         findings: &mut [Finding],
     ) -> Result<Checked, Refused>
-        ensures performs { Performs (sizes_of (length tree.old) tables.old) (F.Register.meaning first.now) (sheet_of self.entry) result findings.new tables.new.types.now }
+        ensures performs { ReadsAndChecks (sizes_of (length tree.old) tables.old) (F.Register.meaning first.now) (sheet_of self.entry) result findings.new tables.new.types.now }
         ensures lent { Lent tables.old tables.new }
     {
         match self {

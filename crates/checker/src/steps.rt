@@ -12,7 +12,7 @@ use registers::register::Register;
 const STEPS: usize = 8192;
 
 impl<'a> Walk<'a> {
-    // Does what a frame asks for.
+    // Does what a frame asks for. It goes by an enum, not by a closure: frames lie in a lent slice, so they are plain data.
     fn see_to<R: Register>(
         &mut self,
         source: &Source<R>,

@@ -16,6 +16,7 @@ use types::entries::{Root, TypeEntry};
 #[derive(Clone, Copy)]
 pub struct TooHeavy;
 
+// The slice is lent. By the clauses `lent` of the methods it is still the caller's, who finds there what they wrote.
 #[derive(Drop)]
 pub struct Store<'a> {
     pub entries: &'a mut [TypeEntry],
@@ -92,6 +93,7 @@ impl<'a> Store<'a> {
         self.used = made.used;
         self.count = count + 1;
         self.load = load;
+        // Not by `get_mut`: of what is written through it a proof knows the length alone.
         self.entries[head_of(count)] = made.entry;
         Ok(())
     }

@@ -1,12 +1,13 @@
 // Visiting the entries of the tree.
-ghost use Rattle.std.specs.Prelude.{◌≡◌, ℕ, List, Ok, take, drop, ◌≢◌};
+ghost use Rattle.std.specs.Prelude.{◌≡◌, ℕ, List, Ok, take, drop};
 ghost use Rattle.registers.specs.Meaning.{Meaning};
-ghost use Rattle.parser.specs.declared.symbols.Leaf.TheVariants.{Name};
 ghost use Rattle.parser.specs.declared.tree.WalkFrame.TheVariants.{Expression, Statements};
 ghost use Rattle.checker.specs.declared.finding.Finding.{Finding as AnyFinding};
 ghost use Rattle.checker.specs.declared.first.First.{First as AnyFirst};
 ghost use Rattle.checker.specs.declared.store.Store.{Store as AnyStore};
-ghost use Rattle.checker.specs.Standing.{Onward, VisitsToken, state};
+ghost use Rattle.checker.specs.Askings.{AsksName};
+ghost use Rattle.checker.specs.Makings.{MakesName};
+ghost use Rattle.checker.specs.Standing.{Onward, SameLoans, VisitsToken, state};
 
 use crate::finding::Finding;
 use crate::first::First;
@@ -16,6 +17,7 @@ use crate::walk::{Source, Walk};
 use parser::symbols::Leaf;
 use parser::tree::{TreeEntry, WalkFrame};
 use registers::register::Register;
+use types::entries::Root;
 
 impl<'a, R> Source<'a, R> {
     // The bytes of the sheet from a place on, as far as there are any.
@@ -30,36 +32,23 @@ impl<'a, R> Source<'a, R> {
 }
 
 impl<'a> Walk<'a> {
-    // A name: asks the register for its binding.
-    fn visit_name<R: Register>(
+    // The type of a name, for whose binding the register is asked.
+    fn name_made<R: Register>(
         &mut self,
         source: &Source<R>,
         findings: &mut First<Finding>,
         store: &mut Store,
         place: usize,
-        len: usize,
-    ) -> Result<(), TooHeavy>
-        ensures { VisitsToken source.now.sheet.now (R.Register.meaning source.now.names.now) Name place len (state self.old findings.old store.old) (state self.new findings.new store.new) result }
+        text: &[u8],
+    ) -> Result<Root, TooHeavy>
+        ensures rest { self.new ≡ record self.old { room = self.new.room } }
+        ensures lent { SameLoans (state self.old findings.old store.old) (state self.new findings.new store.new) }
+        ensures asked { AsksName findings.old (R.Register.meaning source.now.names.now) place text.now findings.new }
+        ensures makes { MakesName store.old (R.Register.meaning source.now.names.now) text.now store.new result }
     {
-        let found = source.names.ask(source.part(place, len), &mut self.room);
+        let found = source.names.ask(text, &mut self.room);
         findings.ask_bound(place, found);
-        let made = store.found_made(found, &self.room)?;
-        self.ended(store, place, made)
-    }
-
-    // A token that is no name.
-    fn visit_literal<R>(
-        &mut self,
-        source: &Source<R>,
-        store: &mut Store,
-        leaf: Leaf,
-        place: usize,
-        len: usize,
-    ) -> Result<(), TooHeavy>
-        ensures { (Γ : Meaning) (f : AnyFirst AnyFinding) → (leaf ≢ Name) → VisitsToken source.now.sheet.now Γ leaf place len (state self.old f store.old) (state self.new f store.new) result }
-    {
-        let made = store.literal_made(leaf, source.part(place, len))?;
-        self.ended(store, place, made)
+        store.found_made(found, &self.room)
     }
 
     // A token.
@@ -74,10 +63,12 @@ impl<'a> Walk<'a> {
     ) -> Result<(), TooHeavy>
         ensures { VisitsToken source.now.sheet.now (R.Register.meaning source.now.names.now) leaf place len (state self.old findings.old store.old) (state self.new findings.new store.new) result }
     {
-        match leaf {
-            Leaf::Name => self.visit_name(source, findings, store, place, len),
-            _ => self.visit_literal(source, store, leaf, place, len),
-        }
+        let text = source.part(place, len);
+        let made = match leaf {
+            Leaf::Name => self.name_made(source, findings, store, place, text)?,
+            _ => store.literal_made(leaf, text)?,
+        };
+        self.ended(store, place, made)
     }
 
     // The expression at an index: a token ends at once, other expressions wait for their parts.

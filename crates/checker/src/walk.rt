@@ -10,6 +10,7 @@ use crate::rules::rule_of;
 use crate::store::{Store, TooHeavy};
 use parser::symbols::{Operator, Prefix};
 use parser::tree::{OperatorEntry, TreeEntry, WalkFrame};
+use registers::register::ROOM;
 use stack::Stack;
 use types::entries::{Root, TypeEntry};
 
@@ -30,7 +31,7 @@ pub struct Walk<'a> {
     // the finished operands
     pub operators: Stack<'a, OperatorEntry>,
     // the parts of the type that a register told last
-    pub room: [TypeEntry; 128],
+    pub room: [TypeEntry; ROOM],
 }
 
 // A finished operand: its place and its type.

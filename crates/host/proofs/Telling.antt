@@ -1,77 +1,47 @@
 -- What is told of a sheet, from what reading and checking answer. Assumes nothing.
-use Rattle.std.proofs.Common.{◌≡◌, ℕ, ◌-◌, ◌/◌, ◌<◌, ◌≤◌, min, List, ◌++◌, length, take, Ok, Err, Result, sym, ap, ◌∙◌, subst, arith}
-use Rattle.std.specs.Result.{MatchResult}
+use Rattle.std.proofs.Common.{◌≡◌, ℕ, ◌-◌, ◌/◌, ◌<◌, ◌≤◌, min, List, ◌++◌, length, take, Ok, sym, ap, ◌∙◌, subst, arith}
 use Rattle.std.proofs.lemmas.List.{ext_get_or, get_or-take, length-take-le}
 use Rattle.lexer.specs.Faults.{FirstFault}
 use Rattle.lexer.specs.Refusals.{number_of}
 use Rattle.lexer.specs.declared.refusal.Refusal.{Refusal}
 use Rattle.types.specs.declared.entries.TypeEntry.{TypeEntry}
 use Rattle.registers.specs.Library.{library}
-use Rattle.parser.specs.declared.reading.Read.{Read}
+use Rattle.parser.specs.declared.reading.Read.{Read as AnyRead}
 use Rattle.parser.specs.declared.tree.TreeEntry.{TreeEntry}
 use Rattle.parser.specs.Syntax.{Expr}
-use Rattle.parser.specs.Reading as reading
-use Rattle.parser.specs.Reading.{Sizes, Short, Fault, Reads, Represents}
+use Rattle.parser.specs.Reading.{Sizes, Fault, Reads}
 use Rattle.checker.specs.declared.finding.Finding.{Finding}
 use Rattle.checker.specs.declared.stage.Checked.{Checked}
 use Rattle.checker.specs.Conditions.{Condition}
 use Rattle.checker.specs.Findings.{Findings, none, met, unmet, blank, FirstOf}
-use Rattle.checker.specs.Checks as checks
-use Rattle.checker.specs.Checks.{CheckedAs, Refuses, Checks}
-use Rattle.checker.proofs.Logging.{short}
-use Rattle.checker.proofs.Notes.{few_notes_of_all}
+use Rattle.checker.specs.declared.run.Refused.{Refused as Unchecked}
+use Rattle.checker.specs.declared.run.Refused.TheVariants.{Read, Check}
+use Rattle.checker.specs.Checks.{CheckedAs}
+use Rattle.checker.specs.Runs as answer
+use Rattle.checker.specs.Runs.{Readable, AnswersTo, read_refused}
+use Rattle.checker.specs.Outcomes.{refusal_in, refusing}
+use Rattle.checker.proofs.Logging.{few_found as few}
+use Rattle.checker.proofs.Notes.{few_by_load}
 use Rattle.host.specs.Layout.{word, rows, replaced, fitting}
-use Rattle.checker.specs.Runs.{Readable}
-use Rattle.host.specs.Answers.{tables, Refused, too_heavy, ReadAnswers, is_program, not_read, CheckAnswers, is_checked, is_refused}
-use Rattle.host.specs.Outcomes.{CheckedSo, Outcome}
+use Rattle.host.specs.Answers.{tables, Found, Refused, unread, too_heavy, ReadAnswers, is_program, not_read, CheckAnswers, is_checked, is_refused}
 
 pub full : {a b c d : ℕ} → a ≡ 4096 → b ≡ 4096 → c ≡ 4096 → d ≡ 8192 → ◌≡◌ {A = Sizes} (record { of_tree = a; of_operators = b; of_frames = c; of_types = d }) tables
 full e f g h = cc
 
--- a finding tells of a condition
-few : {cs : List Condition} {fs : List Finding} → Findings cs fs → length fs ≤ length cs
-few none = omega arith
-few (met m f) = omega (arith, few f)
-few (unmet m f) = omega (arith, few f)
-
-module _ {s : Sizes} {sheet : List ℕ} {tree : List TreeEntry} {read : Read} (h : Reads s sheet tree (Ok read)) where
-  pub readable : Readable s sheet h.1.0
-  readable = record { faultless = h.0; written = h.1.1.written; only = h.1.1.only }
-
-  -- a check of what was read is refused for its load alone
-  pub refused_heavy : {e : Refusal} (s' : Sizes) → s' ≡ s → Refuses s' sheet tree read library e → Refused s sheet e
-  refused_heavy s' same (checks.short_table x) = absurd (h.0 _ _ (reading.short_table (subst Short same x)))
-  refused_heavy s' same (checks.damaged x y) = absurd (y h.1.1.proper)
-  refused_heavy s' same (checks.too_heavy x y z) = too_heavy h.1.0 readable (λ ns typed. z h.1.0 ns h.1.1 typed)
-
-  pub checked_so : {c : Checked} {listed : List Finding} {es : List TypeEntry} → ((ss : List Expr) → Represents sheet tree read ss → CheckedAs sheet library ss c listed es) → CheckedSo s sheet c listed
-  checked_so {c} {listed} {es} k =
-      let d : CheckedAs sheet library h.1.0 c listed es = k h.1.0 h.1.1 in
-      record {
-        program = h.1.0;
-        found = d.found;
-        readable = readable;
-        holds = record {
-          notes = d.notes;
-          typed = d.typed;
-          alone = d.alone;
-          load = d.load;
-          findings = d.findings;
-          numbered = d.expressions;
-          few_found = omega (arith, h.1.1.small, few_notes_of_all d.typed, short d.notes, few d.findings);
-          few_expressions = omega (arith, h.1.1.small, few_notes_of_all d.typed, short d.notes, d.expressions);
-          derived = λ z. d.derived (d.count ∙ z);
-          clean = λ x. sym d.count ∙ d.clean x;
-        };
-        count = d.count;
-        list = d.list;
-      }
-
-  -- what comes of the check, whose refusal leaves what was read behind
-  pub outcome_of : (s' : Sizes) → s' ≡ s → (r : Result Checked (Refusal × Read)) (told : Result Checked Refusal) (listed : List Finding) (es : List TypeEntry) → Checks s' sheet tree read library r listed es →
-      MatchResult r (λ c. told ≡ Ok c) (λ e. told ≡ Err e.0) → Outcome s sheet told listed
-  outcome_of s' same (Ok c) told listed es k is = subst (λ z. Outcome s sheet z listed) (sym is) (checked_so k.2)
-  outcome_of s' same (Err e) told listed es k is = subst (λ z. Outcome s sheet z listed) (sym is) (refused_heavy s' same k.0)
+-- what the program of a checked sheet has
+found_in : {sheet : List ℕ} {ss : List Expr} {c : Checked} {listed : List Finding} {es : List TypeEntry} (d : CheckedAs sheet library ss c listed es) → Found sheet ss d.found c.expressions
+found_in d = record {
+  notes = d.notes;
+  typed = d.typed;
+  alone = d.alone;
+  load = d.load;
+  findings = d.findings;
+  numbered = d.expressions;
+  few_found = omega (arith, few_by_load d.typed, d.load, few d.findings);
+  few_expressions = omega (arith, few_by_load d.typed, d.load, d.expressions);
+  derived = λ z. d.derived (d.count ∙ z);
+  clean = λ x. sym d.count ∙ d.clean x;
+}
 
 -- the first n of a list that has the first of another are the first n of that one
 front : (n : ℕ) (xs ys : List Finding) → FirstOf blank xs ys → n ≤ length xs → n ≤ length ys → take n xs ≡ take n ys
@@ -89,22 +59,31 @@ module _ (sheet out : List ℕ) {s : Sizes} (full : s ≡ tables) (room : 8 ≤ 
   tell_unread e f p q =
       subst (λ a. ReadAnswers sheet out a number) (sym p) (subst (ReadAnswers sheet out (replaced out 0 (word e.place))) (sym q) (not_read room (subst (λ z. FirstFault (Fault z sheet) e) full f)))
 
-  pub tell_refused : (e : Refusal) → Refused s sheet e → after ≡ replaced out 0 (word e.place) → number ≡ number_of e.reason → CheckAnswers sheet out after number
+  tell_refused : (e : Refusal) → Refused s sheet e → after ≡ replaced out 0 (word e.place) → number ≡ number_of e.reason → CheckAnswers sheet out after number
   tell_refused e f p q =
       subst (λ a. CheckAnswers sheet out a number) (sym p) (subst (CheckAnswers sheet out (replaced out 0 (word e.place))) (sym q) (is_refused room (subst (λ z. Refused z sheet e) full f)))
 
-  pub tell_checked : (c : Checked) (listed : List Finding) → length listed ≡ 4096 → CheckedSo s sheet c listed
+  -- a sheet that could not be read, or could not be checked
+  pub tell_not_checked : (r : Unchecked) (e : Refusal) → AnswersTo s library sheet (refusing r) → e ≡ refusal_in r → after ≡ replaced out 0 (word e.place) → number ≡ number_of e.reason → CheckAnswers sheet out after number
+  tell_not_checked r e a is p q = tell_refused e (subst (Refused s sheet) (sym is) (why r a)) p q
+    where
+      why : (r : Unchecked) → AnswersTo s library sheet (refusing r) → Refused s sheet (refusal_in r)
+      why (Read e) (read_refused f) = unread f
+      why (Check e) (answer.too_heavy ss r h) = too_heavy ss r h
+
+  pub tell_checked : (c : Checked) (listed : List Finding) (es : List TypeEntry) → length listed ≡ 4096 → (ss : List Expr) × Readable s sheet ss × CheckedAs sheet library ss c listed es
       → after ≡ replaced out 0 (word c.count ++ (word c.expressions ++ rows (take (min (min c.count (length listed)) ((length out - 8) / 8)) listed))) → number ≡ 0 → CheckAnswers sheet out after number
-  tell_checked c listed long k p q =
-      let found = k.found in
+  tell_checked c listed es long k p q =
+      let d : CheckedAs sheet library k.0 c listed es = k.2 in
+      let found = d.found in
       let n = fitting (length found) out in
       let few : n ≤ length found = omega arith in
       let fit : n ≤ length listed = omega arith in
       let written : after ≡ replaced out 0 (word (length found) ++ (word c.expressions ++ rows (take n found))) =
       p
       ∙ ap (λ m. replaced out 0 (word c.count ++ (word c.expressions ++ rows (take (min (min c.count m) ((length out - 8) / 8)) listed)))) long
-      ∙ ap (λ m. replaced out 0 (word m ++ (word c.expressions ++ rows (take (fitting m out) listed)))) k.count
-      ∙ ap (λ l. replaced out 0 (word (length found) ++ (word c.expressions ++ rows l))) (front n listed found k.list fit few) in
+      ∙ ap (λ m. replaced out 0 (word m ++ (word c.expressions ++ rows (take (fitting m out) listed)))) d.count
+      ∙ ap (λ l. replaced out 0 (word (length found) ++ (word c.expressions ++ rows l))) (front n listed found d.list fit few) in
       subst (λ a. CheckAnswers sheet out a number) (sym written)
       (subst (CheckAnswers sheet out (replaced out 0 (word (length found) ++ (word c.expressions ++ rows (take n found))))) (sym q)
-      (is_checked room k.program found c.expressions (subst (λ z. Readable z sheet k.program) full k.readable) k.holds))
+      (is_checked room k.0 found c.expressions (subst (λ z. Readable z sheet k.0) full k.1) (found_in d)))

@@ -1,3 +1,2 @@
 pub mod Layout
 pub mod Answers
-pub mod Outcomes

@@ -7,20 +7,24 @@ ghost use Rattle.host.specs.Layout.{word, rows, replaced};
 ghost use Rattle.host.specs.Answers.{ReadAnswers, CheckAnswers};
 
 mod layout;
-mod sheets;
 
 use crate::layout::{put, put_findings};
-use crate::sheets::read_and_check;
 use checker::finding::{BLANK, Finding};
+use checker::run::read_and_check;
 use checker::stage::Checked;
 use lexer::refusal::Refusal;
 use parser::read;
-use parser::tables::Tables;
+use parser::tables::{ENTRIES, TYPES, Tables};
 use parser::tree::{OperatorEntry, TreeEntry, WalkFrame};
+use registers::empty::Empty;
+use registers::library::Library;
 use types::entries::TypeEntry;
 
 // The answer where `out` has no room for one.
 const NO_ROOM: u32 = 1;
+
+// How many findings are listed at most. All are counted.
+const FINDINGS: usize = 4096;
 
 // The number of a refusal. Its place goes into the first four bytes of `out`.
 fn refused(out: &mut [u8], e: Refusal) -> u32
@@ -53,10 +57,10 @@ pub fn sheet_read(sheet: &[u8], out: &mut [u8]) -> u32
         return NO_ROOM;
     }
     // made here and in `sheet_check`: a struct of four arrays that a function gives back is cleared twice
-    let mut tree = [TreeEntry::Blank; 4096];
-    let mut operators = [OperatorEntry::Blank; 4096];
-    let mut frames = [WalkFrame::Blank; 4096];
-    let mut types = [TypeEntry::Unused; 8192];
+    let mut tree = [TreeEntry::Blank; ENTRIES];
+    let mut operators = [OperatorEntry::Blank; ENTRIES];
+    let mut frames = [WalkFrame::Blank; ENTRIES];
+    let mut types = [TypeEntry::Unused; TYPES];
     let mut lent = Tables {
         operators: &mut operators,
         frames: &mut frames,
@@ -78,18 +82,18 @@ pub fn sheet_check(sheet: &[u8], out: &mut [u8]) -> u32
     if out.len() < 8 {
         return NO_ROOM;
     }
-    let mut tree = [TreeEntry::Blank; 4096];
-    let mut operators = [OperatorEntry::Blank; 4096];
-    let mut frames = [WalkFrame::Blank; 4096];
-    let mut types = [TypeEntry::Unused; 8192];
+    let mut tree = [TreeEntry::Blank; ENTRIES];
+    let mut operators = [OperatorEntry::Blank; ENTRIES];
+    let mut frames = [WalkFrame::Blank; ENTRIES];
+    let mut types = [TypeEntry::Unused; TYPES];
     let mut lent = Tables {
         operators: &mut operators,
         frames: &mut frames,
         types: &mut types,
     };
-    let mut findings = [BLANK; 4096];
-    match read_and_check(sheet, &mut tree, &mut lent, &mut findings) {
+    let mut findings = [BLANK; FINDINGS];
+    match read_and_check(sheet, &Library, &Empty, &mut tree, &mut lent, &mut findings) {
         Ok(c) => checked(out, &c, &findings),
-        Err(e) => refused(out, e),
+        Err(e) => refused(out, Refusal::from(e)),
     }
 }

@@ -1,6 +1,7 @@
 use Rattle.std.proofs.Common.{arith}
 use Rattle.host.specs.Answers.{no_room_to_read}
-use Rattle.host.proofs.Telling.{full, readable, tell_program, tell_unread}
+use Rattle.checker.proofs.Running.{readable}
+use Rattle.host.proofs.Telling.{full, tell_program, tell_unread}
 use Rattle.host.proofs.sheet_read.Goals as goal
 
 pub returns-then-out-lt8 : goal.returns-then-out-lt8

@@ -1,6 +1,6 @@
 use Rattle.std.proofs.Common.{arith}
+use Rattle.std.proofs.lemmas.Bool.Decides.{not_from_Decides}
 use Rattle.checker.specs.Orders.{short_table, no_expression, damaged}
-use Rattle.checker.proofs.Checking.{refuted}
 use Rattle.checker.proofs.asked.type_of.Goals as goal
 
 pub returns-then-types-lt-TYPES : goal.returns-then-types-lt-TYPES
@@ -14,5 +14,5 @@ pub returns-then-not-in_order : goal.returns-then-not-in_order
 returns-then-not-in_order c =
     rw c.at-then-not-in_order.ensures (
     damaged c.if-types-lt-TYPES.false (omega (arith, c.if-number-expressions.false, c.expressions.ensures))
-    (refuted _ c.in_order.ensures c.if-not-in_order.true)
+    (not_from_Decides _ c.in_order.ensures c.if-not-in_order.true)
     )

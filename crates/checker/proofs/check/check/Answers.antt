@@ -1,37 +1,36 @@
-use Rattle.std.proofs.Common.{sym, refl, subst}
+use Rattle.std.proofs.Common.{◌≤◌, List, sym, refl, ◌∙◌, subst, rules}
+use Rattle.std.proofs.lemmas.Bool.Decides.{not_from_Decides}
 use Rattle.parser.specs.Table.{AllProper, Listed}
-use Rattle.checker.specs.Checks.{short_table, damaged, too_heavy}
-use Rattle.checker.proofs.Checking.{refuted, enough, checked_as}
+use Rattle.parser.specs.Syntax.{Expr, sizes}
+use Rattle.checker.specs.Rules.{Note, AllTyped}
+use Rattle.checker.specs.Walks.{WalkedOrHeavy}
+use Rattle.checker.specs.Checks.{short_table, damaged}
+use Rattle.checker.proofs.Checking.{enough, checks_heavy, checks_walked}
 use Rattle.checker.proofs.check.check.Goals as goal
+use Rattle.checker.proofs.check.check.Goals.{then-is_err, else-is_err}
 
 pub returns-then-is_short-clause-checks : goal.returns-then-is_short-clause-checks
 returns-then-is_short-clause-checks g c = rw c.at.ensures (short_table (c.is_short.ensures.0 c.if-is_short.true), refl, c.blank_out.ensures)
 
 pub returns-then-not-proper-clause-checks : goal.returns-then-not-proper-clause-checks
 returns-then-not-proper-clause-checks g c = rw c.at-then-not-proper.ensures (
-  damaged (refuted _ c.is_short.ensures c.if-is_short.false) (λ p. refuted _ c.proper.ensures c.if-not-proper.true (subst (AllProper _ _) (sym c.used.ensures) p)),
+  damaged (not_from_Decides _ c.is_short.ensures c.if-is_short.false) (λ p. not_from_Decides _ c.proper.ensures c.if-not-proper.true (subst (AllProper _ _) (sym c.used.ensures) p)),
   refl,
   c.blank_out.ensures,
 )
 
-pub returns-in-Err-clause-checks : goal.returns-in-Err-clause-checks
-returns-in-Err-clause-checks g c =
-    let long = refuted _ c.is_short.ensures c.if-is_short.false in
+pub returns-clause-checks : goal.returns-clause-checks
+returns-clause-checks g c =
+    let long = not_from_Decides _ c.is_short.ensures c.if-is_short.false in
     let e = enough _ long in
-    rw c.at-in-Err.ensures (
-      too_heavy long (subst (AllProper _ _) c.used.ensures (c.proper.ensures.0 c.if-not-proper.false))
-          (λ ss ns rep typed. c.in-Err.ensures ss ns (subst (λ i. Listed c.args.tree.now i ss) (sym c.last.ensures) rep.listed) rep.small typed (g.F.Register.sound c.args.first.now) e.0 e.1 e.2 c.blank_out.ensures),
-      refl,
-      c.blank_out-in-Err.ensures,
-    )
-
-pub returns-in-Ok-clause-checks : goal.returns-in-Ok-clause-checks
-returns-in-Ok-clause-checks g c =
-    let long = refuted _ c.is_short.ensures c.if-is_short.false in
-    let e = enough _ long in
-    let sound = g.F.Register.sound c.args.first.now in (
-      long,
-      subst (AllProper _ _) c.used.ensures (c.proper.ensures.0 c.if-not-proper.false),
-      λ ss rep. checked_as _ _ ss _ _ _ sound rep.written
-          (λ ns typed. c.in-Ok.ensures ss ns (subst (λ i. Listed c.args.tree.now i ss) (sym c.last.ensures) rep.listed) rep.small typed sound e.0 e.1 e.2 c.blank_out.ensures),
-    )
+    let proper = subst (AllProper _ _) c.used.ensures (c.proper.ensures.0 c.if-not-proper.false) in
+    let sound = g.F.Register.sound c.args.first.now in
+    let r = c.walk_over-walked.result in
+    let walk : (ss : List Expr) (ns : List Note) → Listed c.args.tree.now c.args.reading.last ss → sizes ss ≤ 4096 → AllTyped c.args.sheet.now (g.F.Register.meaning c.args.first.now) ss ns
+    → WalkedOrHeavy ns r c.walk_over-walked.new.findings c.walk_over-walked.new.types = λ ss ns listed small typed. c.walk_over-walked.ensures ss ns (subst (λ i. Listed c.args.tree.now i ss) (sym c.last.ensures) listed) small typed sound e.0 e.1 e.2 c.blank_out.ensures in
+    elim c.if-is_err.branch [
+      | then-is_err w ↦
+          rw w.findings-is
+          (checks_heavy _ _ _ _ _ r _ _ _ _ c.map_err.ensures.cases long proper sound walk (sym c.is_err.ensures.value ∙ w.if-is_err.true) _ w.blank_out-then-is_err.ensures (λ e d k. search rules))
+      | else-is_err w ↦ rw w.findings-is (checks_walked _ _ _ _ _ r _ _ _ _ c.map_err.ensures.cases long proper sound walk (sym c.is_err.ensures.value ∙ w.if-is_err.false))
+    ]

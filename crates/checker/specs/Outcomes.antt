@@ -1,5 +1,6 @@
--- What one call does. No public contract cites it. Assumes nothing.
+-- What comes of reading and checking a sheet. Assumes nothing.
 use Rattle.std.specs.Prelude.{ℕ, List, Ok, Err, Result}
+use Rattle.lexer.specs.declared.refusal.Refusal.{Refusal}
 use Rattle.types.specs.declared.entries.TypeEntry.{TypeEntry}
 use Rattle.registers.specs.Meaning.{Meaning}
 use Rattle.parser.specs.Syntax.{Expr}
@@ -13,17 +14,23 @@ use Rattle.checker.specs.declared.stage.Checked.{Checked}
 use Rattle.checker.specs.Checks.{CheckedAs}
 use Rattle.checker.specs.Runs.{AnswersTo, Readable}
 
--- what is said of a refusal
+-- the refusal, whichever step it came from
+abbrev pub refusal_in : Refused → Refusal
+refusal_in (Read e) = e
+refusal_in (Check e) = e
+
+-- a refusal, as a run answers it
 abbrev pub refusing : Refused → Answer
 refusing (Read e) = ReadRefused e
 refusing (Check e) = CheckRefused e
 
--- a sheet was checked, with what is left in the tables, or was refused
-abbrev pub Performs : Sizes → Meaning → List ℕ → Result Checked Refused → List Finding → List TypeEntry → Type 0
-Performs s Γ sheet (Ok c) listed es = (ss : List Expr) × Readable s sheet ss × CheckedAs sheet Γ ss c listed es
-Performs s Γ sheet (Err e) listed es = AnswersTo s Γ sheet (refusing e)
+-- The sheet was checked: it is a program, whose findings and types are left in the list and the table. Or it was refused, as
+-- a run would answer.
+abbrev pub ReadsAndChecks : Sizes → Meaning → List ℕ → Result Checked Refused → List Finding → List TypeEntry → Type 0
+ReadsAndChecks s Γ sheet (Ok c) listed es = (ss : List Expr) × Readable s sheet ss × CheckedAs sheet Γ ss c listed es
+ReadsAndChecks s Γ sheet (Err e) listed es = AnswersTo s Γ sheet (refusing e)
 
--- what is said of either
+-- what a run answers of either
 abbrev pub saying : Result Checked Refused → Answer
 saying (Ok c) = Counted c.count c.expressions
 saying (Err e) = refusing e
