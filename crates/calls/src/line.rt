@@ -41,6 +41,7 @@ fn bytes_of(heap: Global, text: &str) -> anyhow::Result<Option<Vec<u8>>> {
 
 // The call that a line writes, or none where it writes no call.
 pub fn request_of(heap: Global, line: &[u8]) -> anyhow::Result<Option<Request>> {
+    // Not `?`: the function gives a Result, and what stands for no call is its Ok(None).
     let Some((text, room)) = operands_of(line) else {
         return Ok(None);
     };

@@ -2,7 +2,7 @@
 use std::fmt::Write;
 use types::entries::{Root, TypeEntry};
 
-// The word of a type that is one word.
+// The word of a type that is one word. No Display: a type with parts has none, and its parts stand in a table.
 fn word(entry: TypeEntry) -> &'static str {
     match entry {
         TypeEntry::Any => "any",
