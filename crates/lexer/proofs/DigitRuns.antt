@@ -1,4 +1,5 @@
 -- How far digits, a fraction, an exponent and a number reach. Assumes nothing.
+use Rattle.std.proofs.lemmas.Grind.{common_steps}
 use Rattle.std.proofs.Common.{◌≡◌, ℕ, zero, suc, ◌+◌, ◌-◌, ◌<◌, ◌≤◌, ◌⊎◌, List, [], ◌∷◌, ◌++◌, length, get_or, take, drop, sym, refl, ap, ◌∙◌, subst, inl, inr, ⊎_elim, add_assoc, arith, length-append, length-drop, get_or-drop, get_or-take}
 use Rattle.std.proofs.ByRecursion.{All-from_get_or, All-get_or}
 use Rattle.std.proofs.Math.Seq.{take-add}
@@ -8,7 +9,7 @@ use Rattle.lexer.specs.Classes.{class}
 use Rattle.lexer.specs.Runs.{Run, Of}
 use Rattle.lexer.specs.Numbers.{DigitByte, Digits, Fraction, whole, dot, Scale, none, plain, minus, plus, Exponent, Amount, amount, NumberText}
 use Rattle.lexer.specs.Reach.{Most, SignByte, Before, signed, unsigned}
-use Rattle.lexer.specs.declared.classes.Class.TheVariants.{Other, Letter, Digit, Mark}
+use Rattle.lexer.specs.declared.classes.Class.TheVariants.{Digit}
 use Rattle.lexer.proofs.Firsts.{in_run}
 use Rattle.lexer.proofs.Pieces.{some as nonempty}
 
@@ -41,14 +42,10 @@ tail_digits bs j m d w h r =
     }
 
 fraction_cases : (t : List ℕ) → Fraction t → (length t ≡ 0) ⊎ ((get_or t 0 0 ≡ 46) × Digits (drop 1 t))
-fraction_cases _ whole = inl refl
-fraction_cases _ (dot d) = inr (refl, d)
+fraction_cases t h = grind arith
 
 scale_cases : (t : List ℕ) (up down : ℕ) → Scale t up down → (length t ≡ 0) ⊎ ((get_or t 0 0 ≡ 101) × ((SignByte (get_or t 1 0) × Digits (drop 2 t)) ⊎ Digits (drop 1 t)))
-scale_cases _ _ _ none = inl refl
-scale_cases _ _ _ (plain d) = inr (refl, inr d)
-scale_cases _ _ _ (minus d) = inr (refl, inl (inl refl, d))
-scale_cases _ _ _ (plus d) = inr (refl, inl (inr refl, d))
+scale_cases t up down h = grind arith
 
 exponent_cases : (t : List ℕ) → Exponent t → (length t ≡ 0) ⊎ ((get_or t 0 0 ≡ 101) × ((SignByte (get_or t 1 0) × Digits (drop 2 t)) ⊎ Digits (drop 1 t)))
 exponent_cases t (up, down, s) = scale_cases t up down s
@@ -57,13 +54,10 @@ no_bytes : (bs : List ℕ) (m : ℕ) → m ≤ length bs → length (take m bs) 
 no_bytes bs m w e = omega (arith, length-take-le m bs w)
 
 none_there : (P : List ℕ → Type 0) (bs : List ℕ) → P [] → ((m : ℕ) → m ≤ length bs → P (take m bs) → m ≤ 0) → Most P bs 0
-none_there P bs p h = record { within = omega arith; is = p; most = h }
+none_there P bs p h = grind arith
 
 byte_of : (bs : List ℕ) (m b : ℕ) → 0 < b → get_or (take m bs) 0 0 ≡ b → get_or bs 0 0 ≡ b
-byte_of bs m b p e =
-    ⊎_elim (λ h. sym (get_or-take m bs 0 0 h) ∙ e)
-    (λ h. let z : m ≡ 0 = omega arith in let n : 0 ≡ b = ap (λ i. get_or (take i bs) 0 0) (sym z) ∙ e in absurd (omega arith))
-    (cases_lt 0 m)
+byte_of bs m b p e = grind arith
 
 pub no_dot : (bs : List ℕ) → (get_or bs 0 0 ≡ 46 → ⊥) → Most Fraction bs 0
 no_dot bs h = none_there Fraction bs whole (λ m w f. ⊎_elim (no_bytes bs m w) (λ t. absurd (h (byte_of bs m 46 (omega arith) t.0))) (fraction_cases _ f))
@@ -100,15 +94,14 @@ exponent_signed (b ∷ c ∷ bs) d e (inl s) h = subst (λ x. Exponent (x ∷ c 
 exponent_signed (b ∷ c ∷ bs) d e (inr s) h = subst (λ x. Exponent (x ∷ c ∷ take d bs)) (sym e) (subst (λ x. Exponent (101 ∷ x ∷ take d bs)) (sym s) (_, _, plus h))
 
 pub no_digit : (b : ℕ) → SignByte b → class b ≡ Digit → ⊥
-no_digit b (inl e) d = let m : Mark ≡ Digit = sym (ap class e) ∙ d in let z : ◌≡◌ {A = ℕ} 0 1 = cc in omega arith
-no_digit b (inr e) d = let m : Mark ≡ Digit = sym (ap class e) ∙ d in let z : ◌≡◌ {A = ℕ} 0 1 = cc in omega arith
+no_digit b h d = grind arith
 
 first_digit : (t : List ℕ) → Digits t → class (get_or t 0 0) ≡ Digit
 first_digit t d = All-get_or DigitByte t 0 0 d.0 d.1
 
 module _ (bs : List ℕ) (m d : ℕ) (w : m ≤ length bs) where
   second : (j : ℕ) → 0 < j → Digits (drop j (take m bs)) → get_or (take m bs) 1 0 ≡ get_or bs 1 0
-  second j p h = get_or-take m bs 1 0 (omega (arith, length-drop j (take m bs), length-take-le m bs w, h.0))
+  second j p h = grind (arith, common_steps)
 
   digits_reach : (b : ℕ) → Before bs b → Run (Of Digit Digit) (drop b bs) d → ((SignByte (get_or (take m bs) 1 0) × Digits (drop 2 (take m bs))) ⊎ Digits (drop 1 (take m bs))) → Tail b m d
   digits_reach _ (signed s) r (inl t) = tail_digits bs 2 m d w t.1 r
@@ -165,10 +158,10 @@ data TailText : List ℕ → Type 0 where
   tail : (fs es : List ℕ) → Fraction fs → Exponent es → TailText (fs ++ es)
 
 not_e : (b : ℕ) → class b ≡ Digit → b ≡ 101 → ⊥
-not_e b d e = let m : Letter ≡ Digit = sym (ap class e) ∙ d in let z : ◌≡◌ {A = ℕ} 0 1 = cc in omega arith
+not_e b d e = grind arith
 
 not_dot : (b : ℕ) → class b ≡ Digit → b ≡ 46 → ⊥
-not_dot b d e = let m : Other ≡ Digit = sym (ap class e) ∙ d in let z : ◌≡◌ {A = ℕ} 0 1 = cc in omega arith
+not_dot b d e = grind arith
 
 fraction_byte : (t : List ℕ) → Fraction t → (i : ℕ) → i < length t → get_or t i 0 ≡ 101 → ⊥
 fraction_byte _ whole i h e = omega arith
@@ -176,7 +169,7 @@ fraction_byte _ (dot d) zero h e = omega arith
 fraction_byte _ (dot d) (suc i) h e = not_e _ (All-get_or DigitByte _ i 0 (omega arith) d.1) e
 
 exponent_first : (t : List ℕ) → Exponent t → 0 < length t → get_or t 0 0 ≡ 101
-exponent_first t x h = ⊎_elim (λ z. absurd (omega arith)) (λ p. p.0) (exponent_cases t x)
+exponent_first t x h = grind arith
 
 tail_first : (t : List ℕ) → TailText t → 0 < length t → (get_or t 0 0 ≡ 46) ⊎ (get_or t 0 0 ≡ 101)
 tail_first _ (tail fs es whole x) h = inr (exponent_first es x h)

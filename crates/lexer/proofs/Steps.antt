@@ -1,6 +1,6 @@
 -- One step of reading. Assumes nothing.
-use Rattle.std.proofs.Common.{◌≡◌, ℕ, ◌+◌, ◌-◌, ◌<◌, ◌≤◌, List, length, take, drop, Some, None, Ok, Err, Option, Result, sym, ap, ◌∙◌, subst, arith, length-drop}
-use Rattle.std.proofs.lemmas.List.{take_rest, drop-drop}
+use Rattle.std.proofs.lemmas.Grind.{common_steps}
+use Rattle.std.proofs.Common.{◌≡◌, ℕ, ◌+◌, ◌-◌, ◌<◌, ◌≤◌, List, length, take, drop, Some, None, Ok, Err, Option, Result, sym, subst, arith, length-drop}
 use Rattle.std.specs.Option.{ok_or}
 use Rattle.lexer.specs.Gaps.{Gap}
 use Rattle.lexer.specs.Sizes.{Small}
@@ -14,15 +14,13 @@ use Rattle.lexer.proofs.Firsts.{token_some}
 
 -- what follows the gap in what is left
 pub past_gap : (sheet : List ℕ) (at g : ℕ) (l : List ℕ) → l ≡ drop at sheet → take (length l - g) (drop g l) ≡ drop (at + g) sheet
-past_gap sheet at g l e = take_rest l g ∙ ap (drop g) e ∙ drop-drop g at sheet
+past_gap sheet at g l e = grind (arith, common_steps)
 
 -- l and r are what is left of the sheet, before and after the gap
 module _ (sheet : List ℕ) (at g : ℕ) (l r : List ℕ) (before : l ≡ drop at sheet) (after : r ≡ drop (at + g) sheet) (gap : Gap l g) (within : g ≤ length l) where
-  past : Gap (drop at sheet) g
-  past = subst (λ x. Gap x g) before gap
 
   pub stops : (e : Refusal) → e.place ≡ at + g → Why r e.reason → Stopped sheet at e
-  stops e p w = record { gap = g; past = past; place = p; why = subst (λ x. Why x e.reason) after w }
+  stops e p w = grind arith
 
   -- a refusal where no token was found, and where a token is too large
   pub no_found : (o : Option Found) (e : Refusal) → FoundAt r o → o ≡ None → (length r ≡ 0 → ⊥) → e.reason ≡ NoToken → e.place ≡ at + g → Stopped sheet at e
@@ -43,14 +41,14 @@ onward sheet at t next h g =
 -- the same, where the reader's sheet is known to be the sheet
 module _ {s sheet : List ℕ} (same : s ≡ sheet) where
   pub given : {at next : ℕ} (t : Token) (o : Option Token) → o ≡ Some t → Reads s at (Ok o) next → Given sheet at t next
-  given {at} {next} t o e g = subst (λ l. Given l at t next) same (subst (λ x. Reads s at (Ok x) next) e g)
+  given t o e g = grind arith
 
   pub finished_at : {at : ℕ} (next : ℕ) (o : Option Token) → o ≡ None → Reads s at (Ok o) next → Finished sheet at
-  finished_at {at} next o e g = subst (λ l. Finished l at) same (subst (λ x. Reads s at (Ok x) next) e g).0
+  finished_at next o e g = grind arith
 
   pub stopped_at : {at : ℕ} {e : Refusal} → Stopped s at e → Stopped sheet at e
   stopped_at {at} {e} g = subst (λ l. Stopped l at e) same g
 
 -- the error that stands for none
 pub error_of : {T E : Type 0} (o : Option T) {e f : E} → o ≡ None → ◌≡◌ {A = Result T E} (Err f) (ok_or o e) → f ≡ e
-error_of {T} {E} o {e} {f} is h = let k : ◌≡◌ {A = Result T E} (Err f) (Err e) = h ∙ ap (λ x. ok_or x e) is in cc
+error_of o is h = grind arith

@@ -64,21 +64,11 @@ module _ (sheet : List ℕ) (at next : ℕ) (a b : Tally) (t : Token)
     worded = sym g.text
 
     still_seen : (p : ℕ) → Seen a p → Seen b p
-    still_seen p s = go line
-      where
-        go : Recorded a sheet t b.line → Seen b p
-        go (before q e f) = (q, f, (let same = some_once e s.1 in omega (arith, s.2)))
-        go (here e h f) = absurd (not_both e s.1)
-        go (nowhere e h f) = absurd (not_both e s.1)
+    still_seen p s = grind arith
 
     -- a break at the token is seen
     now_seen : Breaks a sheet t → Seen b t.at
-    now_seen h = go line
-      where
-        go : Recorded a sheet t b.line → Seen b t.at
-        go (before q e f) = (q, f, omega (arith, early q e, g.place))
-        go (here e k f) = (t.at, f, omega arith)
-        go (nowhere e k f) = absurd (k h)
+    now_seen h = grind arith
 
     over : (tokens : List Tok) → nth tokens (a.count + 0) ≡ tok → OverAt tokens a.count a.over → OverAt tokens b.count b.over
     over tokens first old = subst (OverAt tokens b.count) (sym many) (go a.over old)
@@ -132,14 +122,9 @@ module _ (sheet : List ℕ) (at next : ℕ) (a b : Tally) (t : Token)
       few = omega (arith, on.0);
       last = Some tok;
       knows = knows_last (omega arith) (end ∙ ap (λ i. i + length t.text.now) g.place) (λ e. worded ∙ returns.0 e, λ e. returns.1 (sym worded ∙ e));
-      early = λ p e. soon p e line;
+      early = λ p e. grind (arith, token_some);
       rest = λ us fin l. whole k us fin (rest (tok ∷ us) fin (token g.gap (length t.text.now) g.past g.token (subst (Small t.kind) g.text g.small) (subst (λ i. Lexes sheet i us fin) g.on l)));
     }
-      where
-        soon : (p : ℕ) → b.line ≡ Some p → Recorded a sheet t b.line → p < next
-        soon p e (before q x f) = let same = some_once f e in omega (arith, early q x, on.0)
-        soon p e (here x h f) = let same = some_once f e in omega (arith, g.place, g.on, token_some _ _ _ g.token)
-        soon p e (nowhere x h f) = absurd (not_both f e)
 
 pub tallied_none : (sheet : List ℕ) (a : Tally) → a.count ≡ 0 → a.over ≡ None → a.line ≡ None → Tallied sheet 0 a
 tallied_none sheet a z v n = record {
@@ -147,7 +132,7 @@ tallied_none sheet a z v n = record {
   few = omega arith;
   last = None;
   knows = knows_none z;
-  early = λ p e. absurd (not_both n e);
+  early = λ p e. grind arith;
   rest = λ us fin l. record {
     tokens = us;
     lexes = l;
@@ -155,7 +140,7 @@ tallied_none sheet a z v n = record {
     same = λ j. let i : a.count + j ≡ j = omega arith in ap (nth us) i;
     over = subst (OverAt us a.count) (sym v) (omega arith);
     lines = λ p x. inr x;
-    seen = λ p e. absurd (not_both n e);
+    seen = λ p e. grind arith;
     left = λ p x. x;
   };
 }

@@ -1,34 +1,15 @@
 -- A sheet has one list of tokens and one ending. Assumes nothing.
-use Rattle.std.proofs.Common.{◌≡◌, ℕ, ◌+◌, ◌<◌, ◌≤◌, List, length, take, drop, sym, refl, ap, ◌∙◌, subst, ⊎_elim, arith, length-drop}
-use Rattle.std.proofs.lemmas.Bool.{cases_lt}
-use Rattle.lexer.specs.Runs.{Run}
-use Rattle.lexer.specs.Gaps.{NotFeed, Closed, Piece, blank, line, block, Gap, ends, more}
+use Rattle.std.proofs.Common.{rules, ◌≡◌, ℕ, ◌+◌, ◌<◌, ◌≤◌, List, length, take, drop, sym, refl, ap, ◌∙◌, subst, arith, length-drop}
+use Rattle.lexer.specs.Gaps.{Piece, Gap, ends, more}
 use Rattle.lexer.specs.Tokens.{TokenAt, Spelled}
 use Rattle.lexer.specs.declared.kinds.Kind.{Kind}
-use Rattle.lexer.specs.declared.kinds.Kind.TheVariants as kind
 use Rattle.lexer.specs.Sizes.{Small}
 use Rattle.lexer.specs.Reading.{Why, no_token, too_large, Ending, Lexes, done, refused, token}
 use Rattle.lexer.specs.declared.reasons.Reason.{Reason}
-use Rattle.lexer.proofs.Decodings.{apart}
 use Rattle.lexer.proofs.Firsts.{first, opening, token_some}
-use Rattle.lexer.proofs.Pieces.{not_blank}
-
-run_once : (P : ℕ → Type 0) (bs : List ℕ) (n m : ℕ) → Run P bs n → Run P bs m → n ≤ m
-run_once P bs n m r s = ⊎_elim (λ lt. absurd (s.stops (omega (arith, r.within)) (r.all m lt))) (λ le. le) (cases_lt m n)
-
-closed_once : (bs : List ℕ) (n m : ℕ) → Closed bs n → Closed bs m → n ≤ m
-closed_once bs n m r s = r.first m s.here
 
 piece_below : (bs : List ℕ) (n m : ℕ) → Piece bs n → Piece bs m → n ≤ m
-piece_below bs _ _ (blank e) (blank f) = omega arith
-piece_below bs _ m (blank e) (line o r) = absurd (not_blank _ o.0 e)
-piece_below bs _ m (blank e) (block o r) = absurd (not_blank _ o.0 e)
-piece_below bs n _ (line o r) (blank f) = absurd (not_blank _ o.0 f)
-piece_below bs n m (line o r) (line p s) = run_once NotFeed bs n m r s
-piece_below bs n m (line o r) (block p s) = absurd (omega (arith, o.1, p.1))
-piece_below bs n _ (block o r) (blank f) = absurd (not_blank _ o.0 f)
-piece_below bs n m (block o r) (line p s) = absurd (omega (arith, o.1, p.1))
-piece_below bs n m (block o r) (block p s) = closed_once bs n m r s
+piece_below bs n m h k = search rules
 
 pub piece_once : (bs : List ℕ) (n m : ℕ) → Piece bs n → Piece bs m → n ≡ m
 piece_once bs n m p q = omega (arith, piece_below bs n m p q, piece_below bs m n q p)
@@ -47,7 +28,7 @@ same_kind : (k j : Kind) (t : List ℕ) → Spelled k t → Spelled j t → open
 same_kind k j t s u o = grind arith
 
 length_once : (bs : List ℕ) (k j : Kind) (n m : ℕ) → TokenAt bs k n → TokenAt bs j m → n ≡ m
-length_once bs k j n m s t = omega (arith, t.longest k n s.within s.spelled, s.longest j m t.within t.spelled)
+length_once bs k j n m s t = grind arith
 
 kind_once : (bs : List ℕ) (k j : Kind) (n m : ℕ) → TokenAt bs k n → TokenAt bs j m → k ≡ j
 kind_once bs k j n m s t =

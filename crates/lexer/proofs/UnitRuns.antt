@@ -1,8 +1,9 @@
 -- The units that a decoder gives, one call after another, beside those of a list. Assumes nothing.
-use Rattle.std.proofs.Common.{true, false, Bool, eqb, Decides, MatchOption, IfSome, length, ◌≡◌, ℕ, List, [], ◌∷◌, ◌++◌, get_or, drop, Option, Some, None, Iter, sym, refl, ap, ◌∙◌, subst}
+use Rattle.std.proofs.lemmas.Grind.{common_steps}
+use Rattle.std.proofs.Common.{arith, true, false, Bool, eqb, Decides, MatchOption, IfSome, length, ◌≡◌, ℕ, List, [], ◌∷◌, ◌++◌, get_or, drop, Option, Some, None, Iter, sym, refl, ap, ◌∙◌, subst}
 use Rattle.std.proofs.lemmas.Bool.{false≢true, eqb-true, eq-eqb}
 use Rattle.std.proofs.lemmas.Option.{none-some}
-use Rattle.std.proofs.lemmas.List.{append_cancel_left, nil_from_length}
+use Rattle.std.proofs.lemmas.List.{append_cancel_left}
 use Rattle.std.specs.Iterator.{Yields, ComparesItemsByEq}
 use Rattle.std.specs.Iterator.Adapters.{copied_source, copied_steps}
 use Rattle.std.specs.List.{AllZip}
@@ -14,7 +15,7 @@ use Rattle.lexer.specs.Decoding.{NoUnit, GivesUnit, StringAt, NoString}
 use Rattle.lexer.specs.declared.classes.Class.TheVariants.{Quote}
 use Rattle.lexer.specs.declared.read.Decoder.{Decoder}
 use Rattle.lexer.specs.declared.strings.Quoted.{Quoted}
-use Rattle.lexer.proofs.Decodings.{apart, after_unit, closes_once, no_more, decodes_once, all_string, other_string, whole_string}
+use Rattle.lexer.proofs.Decodings.{after_unit, closes_once, no_more, decodes_once, all_string, other_string}
 
 -- the list begins with what a call gave, or is empty where it gave none
 abbrev Front : {A : Type 0} → Option A → List A → Type 0
@@ -22,9 +23,7 @@ Front {A} o xs = MatchOption o (xs ≡ []) (λ x. (rest : List A) × (xs ≡ x �
 
 module _ (q : ℕ) (is : class q ≡ Quote) where
   written : (s t : Decoder) (u : ℕ) → q ≡ get_or s.text.now 0 0 → GivesUnit s (Some u) t → Writes q (drop s.at s.text.now) u (drop t.at t.text.now)
-  written s t u e g =
-      subst (λ l. Writes q (drop s.at s.text.now) u (drop t.at l)) (sym g.text)
-      (subst (λ i. Writes i (drop s.at s.text.now) u (drop t.at s.text.now)) (sym e) g.unit.0)
+  written s t u e g = grind arith
 
   one_less : (s t : Decoder) (u : ℕ) (us : List ℕ) → q ≡ get_or s.text.now 0 0 → GivesUnit s (Some u) t → Closes q (drop s.at s.text.now) us [] → (vs : List ℕ) × (us ≡ u ∷ vs) × Closes q (drop t.at t.text.now) vs []
   one_less s t u us e g c =
@@ -53,8 +52,7 @@ list_first (y ∷ ys) s t (j, (Some b, g, e), more_of) = let same : y ≡ b.now 
 list_first (y ∷ ys) s t (j, (None, g, e), more_of) = absurd (none-some _ (sym e))
 
 list_next : (o : Option ℕ) (s t : Copied (Iter ℕ)) → copied_steps iter_steps s o t → Front o (iter_rest (copied_source s))
-list_next o s t (Some b, g, e) = subst (λ p. Front p (iter_rest (copied_source s))) (sym e) (iter_rest (copied_source t), g)
-list_next o s t (None, g, e) = subst (λ p. Front p (iter_rest (copied_source s))) (sym e) (nil_from_length (iter_rest (copied_source s)) g.0)
+list_next o s t h = grind (arith, common_steps)
 
 same_items : (xs ys : List ℕ) → AllZip (λ x y. eqb x y ≡ true) xs ys → xs ≡ ys
 same_items [] [] z = refl
@@ -62,19 +60,10 @@ same_items [] (y ∷ ys) z = absurd z
 same_items (x ∷ xs) [] z = absurd z
 same_items (x ∷ xs) (y ∷ ys) z = let first = eqb-true x y z.0 in let others = same_items xs ys z.1 in cc
 
-not_cons : {A : Type 0} {x : ℕ} {xs : List ℕ} → [] ≡ x ∷ xs → A
-not_cons e = apart (cc)
-
 -- what the last two calls gave tells whether the two are the same
 told : (r : Bool) (o p : Option ℕ) (us vs : List ℕ) → Front o us → Front p vs →
     MatchOption o (MatchOption p (r ≡ true) (λ _. r ≡ false)) (λ x. (r ≡ false) × IfSome p (λ y. eqb x y ≡ false)) → Decides r (us ≡ vs)
-told r None None us vs f g l = (λ e. f ∙ sym g, λ e. l)
-told r None (Some y) us vs f g l = (λ e. absurd (false≢true (sym l ∙ e)), λ e. not_cons (sym f ∙ e ∙ g.1))
-told r (Some x) None us vs f g l = (λ e. absurd (false≢true (sym l.0 ∙ e)), λ e. not_cons (sym g ∙ sym e ∙ f.1))
-told r (Some x) (Some y) us vs f g l = (
-  λ e. absurd (false≢true (sym l.0 ∙ e)),
-  λ e. let both : x ∷ f.0 ≡ y ∷ g.0 = sym f.1 ∙ e ∙ g.1 in let same : x ≡ y = cc in absurd (false≢true (sym l.1 ∙ eq-eqb x y same)),
-)
+told r o p us vs f g l = grind arith
 
 closing : (text us : List ℕ) → Decodes text us → (class (get_or text 0 0) ≡ Quote) × Closes (get_or text 0 0) (drop 1 text) us []
 closing _ us (quoted is c) = (is, c)
@@ -96,8 +85,7 @@ gives_units d us units other r decodes at begins (it, xs, ys, o, p, u, v, b, (s,
 
 -- a string that was found, where it is the whole text
 pub whole_text : (t : List ℕ) (o : Option Quoted) (r : Bool) (P : Quoted → Type 0) → MatchOption o (NoString t) (StringAt t) → MatchOption o (r ≡ false) P → ((s : Quoted) → P s → r ≡ eqb s.len (length t)) → r ≡ true → (us : List ℕ) × Decodes t us
-whole_text t (Some s) r P h k f e = (h.units, whole_string t s h (eqb-true _ _ (sym (f s k) ∙ e)))
-whole_text t None r P h k f e = absurd (false≢true (sym k ∙ e))
+whole_text t o r P h k f e = grind (arith, common_steps)
 
 pub no_whole_text : (t us : List ℕ) (o : Option Quoted) (r : Bool) (P : Quoted → Type 0) → MatchOption o (NoString t) (StringAt t) → MatchOption o (r ≡ false) P → ((s : Quoted) → P s → r ≡ eqb s.len (length t)) → r ≡ false → Decodes t us → ⊥
 no_whole_text t us (Some s) r P h k f e d = false≢true (sym e ∙ f s k ∙ eq-eqb _ _ (other_string t s us h d).0)

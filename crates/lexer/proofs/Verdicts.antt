@@ -16,35 +16,11 @@ stopped_turn (token g n p t s l) = stopped_turn l
 
 module _ (sheet : List ℕ) where
   pub long_first : 16384 < length sheet → FirstFault (TokenFault sheet) (record { reason = LongSheet; place = 16384 })
-  long_first h = record { is_fault = too_long h; no_earlier = earlier; no_lower = lower }
-    where
-      earlier : (r : Reason) (p : ℕ) → TokenFault sheet r p → 2 ≤ turn r
-      earlier _ _ (too_long h) = lit≤ tt
-      earlier _ _ (not_lexed l) = omega (arith, stopped_turn l)
-      earlier _ _ (line_broken l b) = lit≤ tt
-      earlier _ _ (too_many l m) = lit≤ tt
-
-      lower : (r : Reason) (p : ℕ) → TokenFault sheet r p → turn r ≡ 2 → (r ≡ NoProgram) ⊎ (16384 ≤ p)
-      lower _ _ (too_long h) e = inr (lit≤ tt)
-      lower _ _ (not_lexed l) e = absurd (omega (arith, stopped_turn l))
-      lower _ _ (line_broken l b) e = absurd (omega arith)
-      lower _ _ (too_many l m) e = absurd (omega arith)
+  long_first h = record { is_fault = too_long h; no_earlier = λ r p f. grind (arith, stopped_turn); no_lower = λ r p f e. grind (arith, stopped_turn) }
 
 module _ (sheet : List ℕ) (short : length sheet ≤ 16384) where
   pub stopped_first : (ts : List Tok) (e : Refusal) → Lexes sheet 0 ts (stopped e.reason e.place) → FirstFault (TokenFault sheet) e
-  stopped_first ts e l = record { is_fault = not_lexed l; no_earlier = earlier; no_lower = lower }
-    where
-      earlier : (r : Reason) (p : ℕ) → TokenFault sheet r p → turn e.reason ≤ turn r
-      earlier _ _ (too_long h) = absurd (omega arith)
-      earlier _ _ (not_lexed m) = omega (arith, stopped_turn l, stopped_turn m)
-      earlier _ _ (line_broken m b) = omega (arith, stopped_turn l)
-      earlier _ _ (too_many m n) = omega (arith, stopped_turn l)
-
-      lower : (r : Reason) (p : ℕ) → TokenFault sheet r p → turn r ≡ turn e.reason → (r ≡ NoProgram) ⊎ (e.place ≤ p)
-      lower _ _ (too_long h) x = absurd (omega arith)
-      lower _ p (not_lexed m) x = let same = (lexes_once sheet 0 _ _ _ _ l m).1 in let here : e.place ≡ p = cc in inr (omega arith)
-      lower _ _ (line_broken m b) x = absurd (omega (arith, stopped_turn l))
-      lower _ _ (too_many m n) x = absurd (omega (arith, stopped_turn l))
+  stopped_first ts e l = record { is_fault = not_lexed l; no_earlier = λ r p f. grind (arith, stopped_turn); no_lower = λ r p f x. grind (arith, stopped_turn, lexes_once) }
 
   module _ (ts : List Tok) (lexes : Lexes sheet 0 ts finished) where
     not_stopped : {us : List Tok} {r : Reason} {p : ℕ} → Lexes sheet 0 us (stopped r p) → ⊥
@@ -54,14 +30,8 @@ module _ (sheet : List ℕ) (short : length sheet ≤ 16384) where
     moved {p = p} l b = subst (λ us. BrokenLine sheet us p) (sym (lexes_once sheet 0 _ _ _ _ lexes l).0) b
 
     pub line_first : (p : ℕ) → BrokenLine sheet ts p → ((q : ℕ) → BrokenLine sheet ts q → p ≤ q) → FirstFault (TokenFault sheet) (record { reason = LineFeed; place = p })
-    line_first p b least = record { is_fault = line_broken lexes b; no_earlier = earlier; no_lower = lower }
+    line_first p b least = record { is_fault = line_broken lexes b; no_earlier = λ r q f. grind (arith, not_stopped); no_lower = lower }
       where
-        earlier : (r : Reason) (q : ℕ) → TokenFault sheet r q → 5 ≤ turn r
-        earlier _ _ (too_long h) = absurd (omega arith)
-        earlier _ _ (not_lexed m) = absurd (not_stopped m)
-        earlier _ _ (line_broken m c) = lit≤ tt
-        earlier _ _ (too_many m n) = lit≤ tt
-
         lower : (r : Reason) (q : ℕ) → TokenFault sheet r q → turn r ≡ 5 → (r ≡ NoProgram) ⊎ (p ≤ q)
         lower _ _ (too_long h) x = absurd (omega arith)
         lower _ _ (not_lexed m) x = absurd (not_stopped m)
@@ -70,19 +40,13 @@ module _ (sheet : List ℕ) (short : length sheet ≤ 16384) where
 
     module _ (unbroken : (q : ℕ) → BrokenLine sheet ts q → ⊥) where
       pub many_first : (p : ℕ) → 4096 < length ts → (nth ts 4096).1 ≡ p → FirstFault (TokenFault sheet) (record { reason = ManyTokens; place = p })
-      many_first p many here = record { is_fault = subst (TokenFault sheet ManyTokens) here (too_many lexes many); no_earlier = earlier; no_lower = lower }
+      many_first p many here = record { is_fault = subst (TokenFault sheet ManyTokens) here (too_many lexes many); no_earlier = earlier; no_lower = λ r q f x. grind (arith, not_stopped, lexes_once) }
         where
           earlier : (r : Reason) (q : ℕ) → TokenFault sheet r q → 6 ≤ turn r
           earlier _ _ (too_long h) = absurd (omega arith)
           earlier _ _ (not_lexed m) = absurd (not_stopped m)
           earlier _ _ (line_broken m c) = absurd (unbroken _ (moved m c))
           earlier _ _ (too_many m n) = lit≤ tt
-
-          lower : (r : Reason) (q : ℕ) → TokenFault sheet r q → turn r ≡ 6 → (r ≡ NoProgram) ⊎ (p ≤ q)
-          lower _ _ (too_long h) x = absurd (omega arith)
-          lower _ _ (not_lexed m) x = absurd (not_stopped m)
-          lower _ _ (line_broken m c) x = absurd (omega arith)
-          lower _ q (too_many {ts = us} m n) x = let same = (lexes_once sheet 0 _ _ _ _ lexes m).0 in let at : p ≡ (nth us 4096).1 = cc in inr (omega arith)
 
       pub clean : (n : ℕ) → length ts ≡ n → n ≤ 4096 → Clean sheet n
       clean n count few = record { tokens = ts; lexes = lexes; count = count; few = few; short = short; faultless = none }
