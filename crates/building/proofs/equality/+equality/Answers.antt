@@ -10,9 +10,6 @@ same_parts-returns-then-count-c t c =
     let e = c.if-count-c.true in
     strings_same c.in-StringLiteral-StringLiteral.is-0 (rw (← e) at c.in-StringLiteral-StringLiteral.is-1) c.same_units.ensures
 
-pub same_parts-returns-else-count-c : goal.same_parts-returns-else-count-c
-same_parts-returns-else-count-c t c = lengths_apart c.in-StringLiteral-StringLiteral.is-0 c.in-StringLiteral-StringLiteral.is-1 (search rules) c.if-count-c.false
-
 pub same_parts-returns-in_ok-part-in-Function-Function-2 : goal.same_parts-returns-in_ok-part-in-Function-Function-2
 same_parts-returns-in_ok-part-in-Function-Function-2 t c =
     let f = c.in_ok-run-in-Function-Function.ensures in
