@@ -1,9 +1,9 @@
 -- The part of a type that is no union. Assumes nothing.
-use Rattle.std.proofs.Common.{◌≡◌, ℕ, List, Some, None, sym, refl, subst, arith}
+use Rattle.std.proofs.Common.{◌≡◌, ℕ, List, Some, sym, subst, arith}
 use Rattle.types.specs.declared.entries.TypeEntry.{TypeEntry}
 use Rattle.types.specs.declared.entries.TypeEntry.TheVariants.{Any, Pair, List as ListOf}
 use Rattle.types.specs.Types.{Ty, any, pair, list}
-use Rattle.types.specs.Table.{entry_at, Is, is_any, is_number, is_number_literal, is_string, is_string_literal, is_boolean, is_true, is_false, is_undefined, is_null, is_function, is_pair, is_list, is_union}
+use Rattle.types.specs.Table.{entry_at, Is, is_any, is_pair, is_list}
 use Rattle.types.specs.declared.entries.Root.{Root}
 use Rattle.types.specs.Roots.{root_at}
 use Rattle.building.specs.declared.parts.Side.{Side}

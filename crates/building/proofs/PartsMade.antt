@@ -15,7 +15,6 @@ use Rattle.types.proofs.Lower.{run_kept}
 use Rattle.types.proofs.Parts.{known, entries_Decides}
 use Rattle.types.specs.contracts.entries.TypeEntryPartialEq.TheImpl.{eq-value}
 use Rattle.types.specs.declared.entries.Root.{Root}
-use Rattle.types.specs.Roots.{root_at}
 use Rattle.building.specs.declared.parts.NoRoom.{NoRoom}
 use Rattle.building.specs.declared.parts.Side.{Side}
 use Rattle.building.specs.declared.parts.Side.TheVariants.{Head, Tail}

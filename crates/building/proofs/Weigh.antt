@@ -1,9 +1,9 @@
 -- What an entry's type weighs. Assumes nothing.
 use Rattle.std.proofs.Common.{◌≡◌, ℕ, suc, ◌+◌, ◌-◌, ◌<◌, ◌≤◌, min, List, length, Some, None, Option, sym, refl, ap, ◌∙◌, subst, arith}
 use Rattle.types.specs.declared.entries.TypeEntry.{TypeEntry}
-use Rattle.types.specs.declared.entries.TypeEntry.TheVariants.{StringLiteral, Function, Pair, List as ListOf, Union}
+use Rattle.types.specs.declared.entries.TypeEntry.TheVariants.{Function}
 use Rattle.types.specs.Types.{Ty, Types, ◌and◌}
-use Rattle.types.specs.Table.{entry_at, Is, is_any, is_number, is_number_literal, is_string, is_string_literal, is_boolean, is_true, is_false, is_undefined, is_null, is_function, is_pair, is_list, is_union, Run, run_end, run_more}
+use Rattle.types.specs.Table.{entry_at, Is, is_function, Run, run_end, run_more}
 use Rattle.building.specs.Weights.{weight, weights}
 use Rattle.types.specs.declared.entries.Root.{Root}
 use Rattle.types.specs.Roots.{root_at}

@@ -1,7 +1,7 @@
 -- `same` answers whether two types are the same: each way out of it by one lemma of `Same`. Assumes nothing.
-use Rattle.std.proofs.Common.{◌≡◌, Decides, sym, ◌∙◌, subst, ⊎_elim, arith, rules}
+use Rattle.std.proofs.Common.{◌≡◌, Decides, sym, ◌∙◌, subst, ⊎_elim, arith}
 use Rattle.types.proofs.Parts.{pair_low, entries_Decides}
-use Rattle.building.proofs.Same.{at_both, strings_same, lengths_apart, not_string, heads_apart, tails_same, not_pair, lists_same, not_list, parameters_apart, results_same, not_function, members_same, not_union, leaves_same, not_alike, runs_unlike, runs_alike, runs_differ}
+use Rattle.building.proofs.Same.{at_both, strings_same, not_string, heads_apart, tails_same, not_pair, lists_same, not_list, parameters_apart, results_same, not_function, members_same, not_union, leaves_same, not_alike, runs_unlike, runs_alike, runs_differ}
 use Rattle.building.proofs.equality.+equality.Goals as goal
 use Rattle.building.proofs.equality.+equality.Goals.{same_parts-in_default-via-in-StringLiteral+in_default, same_parts-in_default-via-in-Function+in_default, same_parts-in_default-via-in-Pair+in_default, same_parts-in_default-via-in-List+in_default, same_parts-in_default-via-in-Union+in_default, same_parts-in_default-via-in_default}
 
