@@ -1,9 +1,11 @@
 -- The part of a type that is no union. Assumes nothing.
-use Rattle.std.proofs.Common.{◌≡◌, ℕ, List, Some, None, sym, refl, subst, arith}
+use Rattle.std.proofs.Common.{◌≡◌, ℕ, List, Some, sym, subst, arith}
 use Rattle.types.specs.declared.entries.TypeEntry.{TypeEntry}
 use Rattle.types.specs.declared.entries.TypeEntry.TheVariants.{Any, Pair, List as ListOf}
 use Rattle.types.specs.Types.{Ty, any, pair, list}
-use Rattle.types.specs.Table.{entry_at, Is, is_any, is_number, is_number_literal, is_string, is_string_literal, is_boolean, is_true, is_false, is_undefined, is_null, is_function, is_pair, is_list, is_union}
+use Rattle.types.specs.Table.{entry_at, Is, is_any, is_pair, is_list}
+use Rattle.types.specs.declared.entries.Root.{Root}
+use Rattle.types.specs.Roots.{root_at}
 use Rattle.building.specs.declared.parts.Side.{Side}
 use Rattle.building.specs.declared.parts.Side.TheVariants.{Head, Tail}
 use Rattle.building.specs.HeadsAndTails.{OwnPart, of_any, head_of_pair, tail_of_pair, head_of_list, tail_of_list}
@@ -17,20 +19,20 @@ any_part {es} {n} {e} {side} is le t h = go (known is h)
     go : {t : Ty} → Is es n Any t → PartHeld es n side t e
     go is_any = record { part = any; is_part = of_any; holds = subst (λ x. Is es n x any) (sym is) is_any }
 
-pub pair_head : {es : List TypeEntry} {n head tail : ℕ} {e : TypeEntry} {side : Side} → e ≡ Pair head tail → side ≡ Head → GivesPart es n e side (Some (entry_at es head))
-pair_head {es} {n} {head} {tail} {e} {side} is s le t h = go (known is h)
+pub pair_head : {es : List TypeEntry} {n head tail : ℕ} {e : TypeEntry} {side : Side} {x : Root} → e ≡ Pair head tail → side ≡ Head → x ≡ root_at es head → GivesPart es n e side (Some x.entry)
+pair_head {es} {n} {head} {tail} {e} {side} is s at le t h = subst (λ z. PartHeld es n side t z.entry) (sym at) (go (known is h))
   where
     go : {t : Ty} → Is es n (Pair head tail) t → PartHeld es n side t (entry_at es head)
     go (is_pair {a} {b} low low' x y) = record { part = a; is_part = subst (λ z. OwnPart z (pair a b) a) (sym s) head_of_pair; holds = higher n (omega arith) x }
 
-pub pair_tail : {es : List TypeEntry} {n head tail : ℕ} {e : TypeEntry} {side : Side} → e ≡ Pair head tail → side ≡ Tail → GivesPart es n e side (Some (entry_at es tail))
-pair_tail {es} {n} {head} {tail} {e} {side} is s le t h = go (known is h)
+pub pair_tail : {es : List TypeEntry} {n head tail : ℕ} {e : TypeEntry} {side : Side} {x : Root} → e ≡ Pair head tail → side ≡ Tail → x ≡ root_at es tail → GivesPart es n e side (Some x.entry)
+pair_tail {es} {n} {head} {tail} {e} {side} is s at le t h = subst (λ z. PartHeld es n side t z.entry) (sym at) (go (known is h))
   where
     go : {t : Ty} → Is es n (Pair head tail) t → PartHeld es n side t (entry_at es tail)
     go (is_pair {a} {b} low low' x y) = record { part = b; is_part = subst (λ z. OwnPart z (pair a b) b) (sym s) tail_of_pair; holds = higher n (omega arith) y }
 
-pub list_head : {es : List TypeEntry} {n element : ℕ} {e : TypeEntry} {side : Side} → e ≡ ListOf element → side ≡ Head → GivesPart es n e side (Some (entry_at es element))
-list_head {es} {n} {element} {e} {side} is s le t h = go (known is h)
+pub list_head : {es : List TypeEntry} {n element : ℕ} {e : TypeEntry} {side : Side} {x : Root} → e ≡ ListOf element → side ≡ Head → x ≡ root_at es element → GivesPart es n e side (Some x.entry)
+list_head {es} {n} {element} {e} {side} is s at le t h = subst (λ z. PartHeld es n side t z.entry) (sym at) (go (known is h))
   where
     go : {t : Ty} → Is es n (ListOf element) t → PartHeld es n side t (entry_at es element)
     go (is_list {t} low x) = record { part = t; is_part = subst (λ z. OwnPart z (list t) t) (sym s) head_of_list; holds = higher n (omega arith) x }
@@ -40,22 +42,3 @@ list_tail {es} {n} {element} {e} {side} is s le t h = go (known is h)
   where
     go : {t : Ty} → Is es n (ListOf element) t → PartHeld es n side t e
     go (is_list {t} low x) = record { part = list t; is_part = subst (λ z. OwnPart z (list t) (list t)) (sym s) tail_of_list; holds = subst (λ y. Is es n y (list t)) (sym is) (is_list low x) }
-
-pub no_part : {es : List TypeEntry} {n : ℕ} {e : TypeEntry} {side : Side} → (e ≡ Any → ⊥) → ((head tail : ℕ) → e ≡ Pair head tail → ⊥) → ((element : ℕ) → e ≡ ListOf element → ⊥) → GivesPart es n e side None
-no_part {es} {n} {e} {side} a p l le t h q x = go refl h x
-  where
-    go : {y : TypeEntry} {s : Side} {t q : Ty} → e ≡ y → Is es n y t → OwnPart s t q → ⊥
-    go is is_any x = a is
-    go is (is_pair low low' u v) x = p _ _ is
-    go is (is_list low u) x = l _ is
-    go is is_number x = elim x [ ]
-    go is (is_number_literal u v) x = elim x [ ]
-    go is is_string x = elim x [ ]
-    go is (is_string_literal low u v) x = elim x [ ]
-    go is is_boolean x = elim x [ ]
-    go is is_true x = elim x [ ]
-    go is is_false x = elim x [ ]
-    go is is_undefined x = elim x [ ]
-    go is is_null x = elim x [ ]
-    go is (is_function low u v) x = elim x [ ]
-    go is (is_union low u) x = elim x [ ]

@@ -15,7 +15,6 @@ use Rattle.types.proofs.Lower.{run_kept}
 use Rattle.types.proofs.Parts.{known, entries_Decides}
 use Rattle.types.specs.contracts.entries.TypeEntryPartialEq.TheImpl.{eq-value}
 use Rattle.types.specs.declared.entries.Root.{Root}
-use Rattle.types.specs.Roots.{root_at}
 use Rattle.building.specs.declared.parts.NoRoom.{NoRoom}
 use Rattle.building.specs.declared.parts.Side.{Side}
 use Rattle.building.specs.declared.parts.Side.TheVariants.{Head, Tail}
@@ -379,7 +378,16 @@ united_some b (union_any c i) = (any, subst (λ x. In any x) (brings_one c b) i)
 united_some b (union_one {t} c m) = (t, subst (λ x. In t x) (brings_one c b) (m.only t in_first))
 united_some b (union_more {t} c m) = (t, subst (λ x. In t x) (brings_one c b) (m.only t in_first))
 
-module _ (es : List TypeEntry) (used first size from end : ℕ) (e : TypeEntry) (side : Side) (is : e ≡ Union first size) (at : from ≡ first) (over : end ≡ first + size) (room : end ≤ used) (long : used ≤ length es) where
+module _ (es : List TypeEntry) (side : Side) {used first size from end : ℕ} {e : TypeEntry} (is : e ≡ Union first size) (told : (from ≡ first) × (end ≡ first + size) × (first + size ≤ used)) (long : used ≤ length es) where
+  at : from ≡ first
+  at = told.0
+
+  over : end ≡ first + size
+  over = told.1
+
+  room : end ≤ used
+  room = omega (arith, over, told.2)
+
   run_here : {ts : Types} → Run es first size ts → Run es from (end - from) ts
   run_here r = run_from from end at over r
 

@@ -1,9 +1,9 @@
 -- What an entry's type weighs. Assumes nothing.
 use Rattle.std.proofs.Common.{◌≡◌, ℕ, suc, ◌+◌, ◌-◌, ◌<◌, ◌≤◌, min, List, length, Some, None, Option, sym, refl, ap, ◌∙◌, subst, arith}
 use Rattle.types.specs.declared.entries.TypeEntry.{TypeEntry}
-use Rattle.types.specs.declared.entries.TypeEntry.TheVariants.{StringLiteral, Function, Pair, List as ListOf, Union}
+use Rattle.types.specs.declared.entries.TypeEntry.TheVariants.{Function}
 use Rattle.types.specs.Types.{Ty, Types, ◌and◌}
-use Rattle.types.specs.Table.{entry_at, Is, is_any, is_number, is_number_literal, is_string, is_string_literal, is_boolean, is_true, is_false, is_undefined, is_null, is_function, is_pair, is_list, is_union, Run, run_end, run_more}
+use Rattle.types.specs.Table.{entry_at, Is, is_function, Run, run_end, run_more}
 use Rattle.building.specs.Weights.{weight, weights}
 use Rattle.types.specs.declared.entries.Root.{Root}
 use Rattle.types.specs.Roots.{root_at}
@@ -39,10 +39,14 @@ no_more : {es : List TypeEntry} {first : ℕ} {us : Types} (size : ℕ) → size
 no_more size e run_end = refl
 no_more size e (run_more x r) = absurd (omega arith)
 
--- the ways out
-pub no_weight : (limit : ℕ) {es : List TypeEntry} {n : ℕ} {e : TypeEntry} {r : Option ℕ} → r ≡ None → (n ≤ length es → (t : Ty) → Is es n e t → ⊥) → SaysPartsWeigh es n e limit r
-no_weight limit {es} {n} {e} none f = subst (SaysPartsWeigh es n e limit) (sym none) f
+-- a part or a run that does not stand below the entry
+pub part_missing : (limit : ℕ) {es : List TypeEntry} {n i : ℕ} {e : TypeEntry} {r : Option ℕ} → r ≡ None → (n ≤ length es → n ≤ i) → ((t : Ty) → Is es n e t → i < n) → SaysPartsWeigh es n e limit r
+part_missing limit {es} {n} {i} {e} none out low = subst (SaysPartsWeigh es n e limit) (sym none) (λ le t h. let a = out le in let b = low t h in omega arith)
 
+pub run_missing : (limit : ℕ) {es : List TypeEntry} {n end : ℕ} {e : TypeEntry} {r : Option ℕ} → r ≡ None → n < end → ((t : Ty) → Is es n e t → end ≤ n) → SaysPartsWeigh es n e limit r
+run_missing limit {es} {n} {end} {e} none out low = subst (SaysPartsWeigh es n e limit) (sym none) (λ le t h. let b = low t h in omega arith)
+
+-- the parameters and the result together
 pub function_weighs : (limit : ℕ) {es : List TypeEntry} {n first size : ℕ} (from end sum w : ℕ) {e : TypeEntry} {all : ℕ} (x : Root) → e ≡ Function first size → from ≡ first → end ≡ first + size → SaysRunWeighs es from end limit sum → x ≡ root_at es (first + size) → SaysWeight es x.used x.entry limit w → all ≡ min (sum + w) limit → SaysPartsWeigh es n e limit (Some all)
 function_weighs limit {es} {n} {first} {size} from end sum w {e} {all} x is p q c at d r le t h = go (known is h)
   where

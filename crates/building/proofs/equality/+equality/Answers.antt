@@ -1,7 +1,7 @@
 -- `same` answers whether two types are the same: each way out of it by one lemma of `Same`. Assumes nothing.
-use Rattle.std.proofs.Common.{◌≡◌, Decides, sym, ◌∙◌, subst, ⊎_elim, arith, rules}
+use Rattle.std.proofs.Common.{◌≡◌, Decides, sym, ◌∙◌, subst, ⊎_elim, arith}
 use Rattle.types.proofs.Parts.{pair_low, entries_Decides}
-use Rattle.building.proofs.Same.{at_both, strings_same, lengths_apart, not_string, heads_apart, tails_same, not_pair, lists_same, not_list, parameters_apart, results_same, not_function, members_same, not_union, leaves_same, not_alike, runs_unlike, runs_alike, runs_differ}
+use Rattle.building.proofs.Same.{at_both, strings_same, not_string, heads_apart, tails_same, not_pair, lists_same, not_list, parameters_apart, results_same, not_function, members_same, not_union, leaves_same, not_alike, runs_unlike, runs_alike, runs_differ}
 use Rattle.building.proofs.equality.+equality.Goals as goal
 use Rattle.building.proofs.equality.+equality.Goals.{same_parts-in_default-via-in-StringLiteral+in_default, same_parts-in_default-via-in-Function+in_default, same_parts-in_default-via-in-Pair+in_default, same_parts-in_default-via-in-List+in_default, same_parts-in_default-via-in-Union+in_default, same_parts-in_default-via-in_default}
 
@@ -9,9 +9,6 @@ pub same_parts-returns-then-count-c : goal.same_parts-returns-then-count-c
 same_parts-returns-then-count-c t c =
     let e = c.if-count-c.true in
     strings_same c.in-StringLiteral-StringLiteral.is-0 (rw (← e) at c.in-StringLiteral-StringLiteral.is-1) c.same_units.ensures
-
-pub same_parts-returns-else-count-c : goal.same_parts-returns-else-count-c
-same_parts-returns-else-count-c t c = lengths_apart c.in-StringLiteral-StringLiteral.is-0 c.in-StringLiteral-StringLiteral.is-1 (search rules) c.if-count-c.false
 
 pub same_parts-returns-in_ok-part-in-Function-Function-2 : goal.same_parts-returns-in_ok-part-in-Function-Function-2
 same_parts-returns-in_ok-part-in-Function-Function-2 t c =

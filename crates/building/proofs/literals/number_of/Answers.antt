@@ -7,9 +7,6 @@ use Rattle.building.proofs.literals.number_of.Goals as goal
 pub returns-in_err-d : goal.returns-in_err-d
 returns-in_err-d c = subst (GivesNumber c.args.text.now) (sym c.from_residual.ensures) (no_number _ c.in_err-d.ensures)
 
-pub exponent_of-requires : goal.exponent_of-requires
-exponent_of-requires c = c.in_ok-d.ensures.canonical.range
-
 pub returns : goal.returns
 returns c =
     let f : SFits w16 c.exponent_of.result = search rules in

@@ -3,26 +3,26 @@ use Rattle.std.proofs.Common.{◌≡◌, ◌∙◌, ap, arith}
 use Rattle.types.specs.Roots.{root_at}
 use Rattle.types.proofs.Parts.{pair_low, list_low}
 use Rattle.building.proofs.Same.{function_low, union_low}
-use Rattle.building.proofs.Weigh.{no_weight, one_more, function_weighs}
+use Rattle.building.proofs.Weigh.{part_missing, run_missing, one_more, function_weighs}
 use Rattle.building.proofs.weights.+weights.Goals as goal
 
 pub parts_weigh-returns-in_err-run-in-Function : goal.parts_weigh-returns-in_err-run-in-Function
-parts_weigh-returns-in_err-run-in-Function t c = no_weight _ c.from_residual.ensures (λ le s h. let low = function_low c.in-Function.is h in let high = c.in_err-run-in-Function.ensures in omega arith)
+parts_weigh-returns-in_err-run-in-Function t c = run_missing _ c.from_residual.ensures c.in_err-run-in-Function.ensures (λ s h. let low = function_low c.in-Function.is h in omega arith)
 
 pub parts_weigh-returns-in_err-part-in-Function : goal.parts_weigh-returns-in_err-part-in-Function
-parts_weigh-returns-in_err-part-in-Function t c = no_weight _ c.from_residual-in_err-part-in-Function.ensures (λ le s h. let low = function_low c.in-Function.is h in let high = c.in_err-part-in-Function.ensures le in omega arith)
+parts_weigh-returns-in_err-part-in-Function t c = part_missing _ c.from_residual-in_err-part-in-Function.ensures c.in_err-part-in-Function.ensures (λ s h. function_low c.in-Function.is h)
 
 pub parts_weigh-returns-in_err-part-in-Pair : goal.parts_weigh-returns-in_err-part-in-Pair
-parts_weigh-returns-in_err-part-in-Pair t c = no_weight _ c.from_residual-in_err-part-in-Pair.ensures (λ le s h. let low = pair_low c.in-Pair.is h in let high = c.in_err-part-in-Pair.ensures le in omega arith)
+parts_weigh-returns-in_err-part-in-Pair t c = part_missing _ c.from_residual-in_err-part-in-Pair.ensures c.in_err-part-in-Pair.ensures (λ s h. (pair_low c.in-Pair.is h).0)
 
 pub parts_weigh-returns-in_err-part-in-Pair-2 : goal.parts_weigh-returns-in_err-part-in-Pair-2
-parts_weigh-returns-in_err-part-in-Pair-2 t c = no_weight _ c.from_residual-in_err-part-in-Pair-2.ensures (λ le s h. let low = pair_low c.in-Pair.is h in let high = c.in_err-part-in-Pair-2.ensures le in omega arith)
+parts_weigh-returns-in_err-part-in-Pair-2 t c = part_missing _ c.from_residual-in_err-part-in-Pair-2.ensures c.in_err-part-in-Pair-2.ensures (λ s h. (pair_low c.in-Pair.is h).1)
 
 pub parts_weigh-returns-in_err-part-in-List : goal.parts_weigh-returns-in_err-part-in-List
-parts_weigh-returns-in_err-part-in-List t c = no_weight _ c.from_residual-in_err-part-in-List.ensures (λ le s h. let low = list_low c.in-List.is h in let high = c.in_err-part-in-List.ensures le in omega arith)
+parts_weigh-returns-in_err-part-in-List t c = part_missing _ c.from_residual-in_err-part-in-List.ensures c.in_err-part-in-List.ensures (λ s h. list_low c.in-List.is h)
 
 pub parts_weigh-returns-in_err-run-in-Union : goal.parts_weigh-returns-in_err-run-in-Union
-parts_weigh-returns-in_err-run-in-Union t c = no_weight _ c.from_residual-in_err-run-in-Union.ensures (λ le s h. let low = union_low c.in-Union.is h in let high = c.in_err-run-in-Union.ensures in omega arith)
+parts_weigh-returns-in_err-run-in-Union t c = run_missing _ c.from_residual-in_err-run-in-Union.ensures c.in_err-run-in-Union.ensures (λ s h. union_low c.in-Union.is h)
 
 pub parts_weigh-returns-in_ok-part-in-Function : goal.parts_weigh-returns-in_ok-part-in-Function
 parts_weigh-returns-in_ok-part-in-Function t c =
