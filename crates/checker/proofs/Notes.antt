@@ -1,5 +1,5 @@
 -- How many notes an expression makes, and the notes of the last statement. Assumes nothing.
-use Rattle.std.proofs.Common.{◌≡◌, ℕ, suc, ◌+◌, ◌*◌, ◌≤◌, List, [], ◌∷◌, ◌++◌, length, sym, refl, ap, ◌∙◌, subst, append_assoc, append-nil, arith, length-append}
+use Rattle.std.proofs.Common.{◌≡◌, ℕ, suc, ◌+◌, ◌*◌, ◌≤◌, List, [], ◌∷◌, ◌++◌, length, sym, refl, ap, ◌∙◌, append_assoc, append-nil, arith, length-append}
 use Rattle.types.specs.Types.{Ty, boolean}
 use Rattle.building.proofs.Closed.{some_weight}
 use Rattle.registers.specs.Meaning.{Meaning}

@@ -1,14 +1,16 @@
 -- The first frame of a walk, and what it has told in the end. Assumes nothing.
-use Rattle.std.proofs.Common.{◌≡◌, ℕ, suc, ◌+◌, ◌-◌, ◌<◌, ◌≤◌, List, [], ◌∷◌, length, get_or, Ok, Err, Option, Result, sym, ◌∙◌, subst, append-nil, arith}
+use Rattle.std.proofs.Common.{◌≡◌, ℕ, suc, ◌+◌, ◌-◌, ◌<◌, ◌≤◌, List, [], ◌∷◌, length, get_or, Ok, Err, Option, Result, sym, ap, ◌∙◌, subst, append-nil, arith}
 use Rattle.std.specs.Result.{IsErr}
 use Rattle.std.proofs.lemmas.Bool.{false≢true}
-use Rattle.stack.specs.Items.{held}
+use Rattle.stack.specs.declared.Stack.{Stack}
+use Rattle.stack.specs.Items.{held, room}
 use Rattle.types.specs.declared.entries.TypeEntry.{TypeEntry}
 use Rattle.types.specs.Types.{any}
 use Rattle.types.specs.Table.{Is, entry_at}
 use Rattle.types.proofs.Lower.{higher}
-use Rattle.registers.specs.Meaning.{Meaning}
+use Rattle.registers.specs.Meaning.{Meaning, Sound}
 use Rattle.parser.specs.declared.tree.TreeEntry.{TreeEntry}
+use Rattle.parser.specs.declared.tree.WalkFrame.{WalkFrame}
 use Rattle.parser.specs.declared.tree.WalkFrame.TheVariants.{Statements}
 use Rattle.parser.specs.Syntax.{Expr, size, sizes}
 use Rattle.parser.specs.Table.{Listed}
@@ -19,7 +21,7 @@ use Rattle.checker.specs.Rules.{Note, AllTyped, conditions, types}
 use Rattle.checker.specs.Findings.{none, blank, FirstOf, weigh}
 use Rattle.checker.specs.Stores.{entries, Tabled}
 use Rattle.checker.specs.Owing.{exprs, turns, owes_none, owes_statements, Going, going}
-use Rattle.checker.specs.Standing.{State, Rooms, Operands, no_operands, Goes, Tells}
+use Rattle.checker.specs.Standing.{State, Rooms, Operands, no_operands, Goes, Runs, Tells, Told}
 use Rattle.checker.specs.Walks.{WalkedAs, WalkedOrHeavy}
 use Rattle.checker.proofs.Notes.{few_notes_of_all}
 use Rattle.checker.proofs.Ordered.{is_orderly, is_no_unit, stands_orderly}
@@ -37,7 +39,7 @@ first_going sheet Γ table last ss ns listed small typed =
     let b = bounds ss small in
     going (owes_statements listed typed (λ us. owes_none)) (append-nil ns) (omega (arith, b.1)) (omega (arith, b.0)) (omega (arith, few_notes_of_all typed))
 
-pub first_goes : (sheet : List ℕ) (Γ : Meaning) (table : List TreeEntry) (last : Option ℕ) (ss : List Expr) (ns : List Note) (w : State) → Listed table last ss → sizes ss ≤ 4096 → AllTyped sheet Γ ss ns
+first_goes : (sheet : List ℕ) (Γ : Meaning) (table : List TreeEntry) (last : Option ℕ) (ss : List Expr) (ns : List Note) (w : State) → Listed table last ss → sizes ss ≤ 4096 → AllTyped sheet Γ ss ns
     → held w.frames ≡ Statements last ∷ [] → held w.operators ≡ [] → Rooms w → 8192 ≤ length (entries w.store) → w.store.used ≡ 0 → w.store.count ≡ 0 → w.store.load ≡ 0
     → w.findings.count ≡ 0 → FirstOf blank w.findings.slots.now [] → Goes sheet Γ table ns 8192 (held w.frames) w
 first_goes sheet Γ table last ss ns w listed small typed frames operators rooms size used count load none_yet blanks =
@@ -50,6 +52,16 @@ first_goes sheet Γ table last ss ns w listed small typed frames operators rooms
       rooms = rooms;
       goes = subst (λ l. Going sheet Γ table ns 8192 l [] []) (sym frames) (first_going sheet Γ table last ss ns listed small typed);
     }
+
+-- what a walk tells that begins with the statement at an index and those before it
+pub first_told : (sheet : List ℕ) (Γ : Meaning) (table : List TreeEntry) (last : Option ℕ) (ss : List Expr) (ns : List Note) (w v : State) (r : Result (Unit {0}) TooHeavy) (empty : Stack WalkFrame) {operators frames : ℕ}
+    → Listed table last ss → sizes ss ≤ 4096 → AllTyped sheet Γ ss ns → Sound Γ → 4096 ≤ operators → 4096 ≤ frames → held empty ≡ [] → room empty ≡ frames
+    → (length (held empty) < room empty → held w.frames ≡ Statements last ∷ held empty) → room w.frames ≡ room empty → held w.operators ≡ [] → room w.operators ≡ operators
+    → 8192 ≤ length (entries w.store) → w.store.used ≡ 0 → w.store.count ≡ 0 → w.store.load ≡ 0 → w.findings.count ≡ 0 → FirstOf blank w.findings.slots.now [] → Runs sheet Γ table w v r → Told ns v r
+first_told sheet Γ table last ss ns w v r empty listed small typed sound o f no_frames space push keeps no_operands_yet space' long used count load none_yet blanks runs =
+    runs.runs ns sound
+    (first_goes sheet Γ table last ss ns w listed small typed (push (omega (arith, space, ap length no_frames)) ∙ ap (λ l. Statements last ∷ l) no_frames) no_operands_yet
+    (record { frames = omega (arith, keeps, space); operators = omega (arith, space') }) long used count load none_yet blanks)
 
 -- what was told in the end
 pub walked : (ns : List Note) (w : State) (c : Checked) → c.count ≡ w.findings.count → c.expressions ≡ w.store.count → c.used ≡ w.store.used → Tells w.findings (conditions ns) → Tabled w.store (types ns)

@@ -1,5 +1,5 @@
 -- One lemma for each entry of the tree that the walk visits. Assumes nothing.
-use Rattle.std.proofs.Common.{◌≡◌, ℕ, suc, ◌+◌, ◌≤◌, List, [], ◌∷◌, ◌++◌, ◌<◌, reverse, length, Ok, Err, Result, Some, None, Option, sym, refl, ap, ◌∙◌, subst, append_assoc, arith, length-append}
+use Rattle.std.proofs.Common.{◌≡◌, ℕ, suc, ◌+◌, ◌≤◌, List, [], ◌∷◌, ◌++◌, reverse, length, Ok, Err, Result, Some, None, Option, sym, refl, ap, ◌∙◌, subst, append_assoc, arith, length-append}
 use Rattle.std.proofs.lemmas.List.{length-reverse}
 use Rattle.std.proofs.lemmas.Option.{none-some, same_Some}
 use Rattle.std.specs.Result.{IsErr}
@@ -29,12 +29,12 @@ use Rattle.checker.specs.Askings.{AsksName}
 use Rattle.checker.specs.Makings.{MakesName, MakesLiteral}
 use Rattle.checker.specs.Stores.{Tabled, Ready}
 use Rattle.checker.specs.Owing.{Opd, exprs, turns, Owes, owes_none, owes_statements, owes_expression, owes_unary, owes_binary, owes_choice, Going, going}
-use Rattle.checker.specs.Standing.{Pushed, State, state, SameLoans, Asks, Goes, Ending, Ends, Stands, Onward}
+use Rattle.checker.specs.Standing.{Pushed, State, state, SameLoans, Asks, Goes, Ending, Ends, Onward}
 use Rattle.checker.proofs.Notes.{last_typed}
 use Rattle.checker.proofs.Typable.{leaf_form}
 use Rattle.checker.proofs.Logging.{asks_none, asks_as}
 use Rattle.checker.proofs.Madely.{ready_as}
-use Rattle.checker.proofs.Walking.{failed, Finishing, finished, finished_heavy}
+use Rattle.checker.proofs.Walking.{Finishing, finished, finished_failed}
 
 pub size_pos : (e : Expr) → 1 ≤ size e
 size_pos (syntax.leaf l p n) = omega arith
@@ -228,7 +228,7 @@ module _ {sheet : List ℕ} {Γ : Meaning} {table : List TreeEntry} {i p n : ℕ
     lent = k.lent;
     onward = λ whole left sound h.
         let t = leaf_going h.notes (visiting h.notes _ q h.goes) in
-        failed (Stands sheet Γ table whole left (state v g r)) is (λ e. finished_heavy (leaf_finishing _ sound h t.2 t.3) (k.made _ _ _ h.tabled t.2).1);
+        finished_failed _ _ (leaf_finishing _ sound h t.2 t.3) (k.made _ _ _ h.tabled t.2).1 is;
   }
 
   -- or it has ended with its type

@@ -29,7 +29,7 @@ use Rattle.checker.specs.Rules.{PrefixRule, InfixRule, Note, has, ends, conditio
 use Rattle.checker.specs.Findings.{weigh}
 use Rattle.checker.specs.Stores.{entries, Tabled, InHand, Ready, KeptType}
 use Rattle.checker.specs.Owing.{Opd, Owes, owes_unary, owes_binary, owes_choice, Going, going}
-use Rattle.checker.specs.Standing.{Takes, Operands, no_operands, one_operand, State, Tells, Asks, Rooms, Goes, Ending}
+use Rattle.checker.specs.Standing.{Takes, Operands, no_operands, one_operand, State, Tells, Asks, Rooms, Goes, Ending, Stands}
 use Rattle.checker.proofs.Logging.{conditions_append, types_append, asked, ends_asked, asked_conditions, asked_types, short}
 use Rattle.checker.proofs.Stored.{tabled_ready, weigh_append}
 use Rattle.checker.proofs.Typable.{prefix_form, infix_form, two_forms}
@@ -127,7 +127,7 @@ module _ {sheet : List ℕ} {Γ : Meaning} {table : List TreeEntry} {whole : Lis
   }
 
   -- or there is no room for its type
-  pub finished_heavy : {w : State} {r : Store} {gs : List OperatorEntry} {p : ℕ} {u : Ty} {cs : List Condition} {e : TooHeavy} → Finishing sheet Γ table whole left fs w gs p u cs → Ready w.store r u (Err e) → 8192 < weigh (types whole)
+  finished_heavy : {w : State} {r : Store} {gs : List OperatorEntry} {p : ℕ} {u : Ty} {cs : List Condition} {e : TooHeavy} → Finishing sheet Γ table whole left fs w gs p u cs → Ready w.store r u (Err e) → 8192 < weigh (types whole)
   finished_heavy {w} {r} {gs} {p} {u} {cs} h ready = go h.goes
     where
       go : Going sheet Γ table whole left fs ((p, u) ∷ h.operands) (h.notes ++ ends cs u) → 8192 < weigh (types whole)
@@ -136,6 +136,11 @@ module _ {sheet : List ℕ} {Γ : Meaning} {table : List TreeEntry} {whole : Lis
           let before = types_append h.notes (asked cs) ∙ (ap (λ ts. types h.notes ++ ts) (asked_types cs) ∙ append-nil (types h.notes)) in
           subst (λ ns. 8192 < weigh (types ns)) (ap (λ ns. ns ++ rest) (sym parts) ∙ all)
           (omega (arith, more_load (h.notes ++ asked cs) rest u, ap weigh before, h.tabled.load, ready.load, ready.in_hand))
+
+  -- and then that is the answer
+  pub finished_failed : {w : State} (v : State) {r : Store} {gs : List OperatorEntry} {p : ℕ} {u : Ty} {cs : List Condition} {e : TooHeavy} (b : Result (Unit {0}) TooHeavy)
+      → Finishing sheet Γ table whole left fs w gs p u cs → Ready w.store r u (Err e) → IsErr b → Stands sheet Γ table whole left v b
+  finished_failed v b h ready is = failed (Stands sheet Γ table whole left v) is (λ e. finished_heavy h ready)
 
 -- the operands of a frame, taken off the stack
 pub record OneTaken (es : List TypeEntry) (used : ℕ) (gs : List OperatorEntry) (p : ℕ) (t : Ty) (vs : List Opd) : Type 0 where

@@ -3,8 +3,8 @@ use Rattle.host.specs.Layout.{word, rows, replaced}
 use Rattle.host.proofs.Bytes.{joined}
 use Rattle.host.proofs.checked.Goals as goal
 
-pub returns : goal.returns
-returns c =
+pub returns-clause-written : goal.returns-clause-written
+returns-clause-written c =
     let out = c.args.out.now in
     let fs = c.args.findings.now in
     let count = c.args.c.now.count in
@@ -20,11 +20,7 @@ returns c =
     ∙ ap (λ k. replaced first 4 (word k)) c.expressions.ensures
     ∙ ap (λ o. replaced o 4 (word expressions)) (c.put.ensures ∙ ap (λ k. replaced out 0 (word k)) c.count.ensures)
     ∙ joined out 0 (word count) (word expressions) 4 refl (omega arith) in
-    record {
-      written =
-          c.put_findings.ensures
-          ∙ ap (λ k. replaced second 8 (rows (take k fs))) fit
-          ∙ ap (λ o. replaced o 8 (rows (take n fs))) head
-          ∙ joined out 0 (word count ++ word expressions) (rows (take n fs)) 8 refl (omega arith);
-      number = refl;
-    }
+    c.put_findings.ensures
+    ∙ ap (λ k. replaced second 8 (rows (take k fs))) fit
+    ∙ ap (λ o. replaced o 8 (rows (take n fs))) head
+    ∙ joined out 0 (word count ++ word expressions) (rows (take n fs)) 8 refl (omega arith)

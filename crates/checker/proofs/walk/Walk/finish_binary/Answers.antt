@@ -1,6 +1,5 @@
 use Rattle.std.proofs.Common.{refl, ◌∙◌}
-use Rattle.checker.specs.Standing.{Stands}
-use Rattle.checker.proofs.Walking.{failed, finished, finished_heavy, in_table, binary_ready}
+use Rattle.checker.proofs.Walking.{finished, finished_failed, in_table, binary_ready}
 use Rattle.checker.proofs.walk.Walk.finish_binary.Goals as goal
 
 pub returns-in_err-made : goal.returns-in_err-made
@@ -9,8 +8,7 @@ returns-in_err-made c sheet Γ table = record {
   onward = λ whole left sound g.
       let h = binary_ready sheet Γ table whole left _ _ _ _ _ _ _ c.take-right.ensures.takes c.take-left.ensures.takes g in
       let form = c.rule_of-rule.ensures _ _ _ _ _ _ _ _ h.is_left h.is_right h.rule in
-      failed (Stands sheet Γ table whole left _) c.from_residual.ensures.0
-      (λ e. finished_heavy h.finishing (c.in_err-made.ensures.makes _ _ _ _ _ _ _ g.tabled h.is_right h.right_formed form));
+      finished_failed _ _ h.finishing (c.in_err-made.ensures.makes _ _ _ _ _ _ _ g.tabled h.is_right h.right_formed form) c.from_residual.ensures.0;
 }
 
 pub returns : goal.returns

@@ -1,7 +1,6 @@
 use Rattle.std.proofs.Common.{refl, ◌∙◌}
 use Rattle.types.specs.Table.{is_boolean}
-use Rattle.checker.specs.Standing.{Stands}
-use Rattle.checker.proofs.Walking.{failed, finished, finished_heavy, in_table, choice_ready}
+use Rattle.checker.proofs.Walking.{finished, finished_failed, in_table, choice_ready}
 use Rattle.checker.proofs.walk.Walk.finish_choice.Goals as goal
 
 pub returns-in_err-made : goal.returns-in_err-made
@@ -9,8 +8,7 @@ returns-in_err-made c sheet Γ table = record {
   lent = (c.ask_fits.ensures.lent, c.united.ensures.lent);
   onward = λ whole left sound g.
       let h = choice_ready sheet Γ table whole left _ _ _ _ _ _ _ _ c.take-other.ensures.takes c.take-then.ensures.takes c.take-test.ensures.takes g in
-      failed (Stands sheet Γ table whole left _) c.from_residual.ensures.0
-      (λ e. finished_heavy h.finishing (c.in_err-made.ensures.united _ _ _ _ g.tabled h.is_then h.is_other h.then_formed h.other_formed h.union));
+      finished_failed _ _ h.finishing (c.in_err-made.ensures.united _ _ _ _ g.tabled h.is_then h.is_other h.then_formed h.other_formed h.union) c.from_residual.ensures.0;
 }
 
 pub returns : goal.returns
