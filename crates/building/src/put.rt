@@ -1,4 +1,5 @@
-// Entries written into the type table.
+// Entries written into the type table. It is one lent slice with the free entries from `used` on, and each function that makes
+// a type there says by `kept` that those below stay. Were it lent the free ones alone, it would need `used` beside them too.
 ghost use Rattle.building.specs.Entries.{Puts};
 ghost use Rattle.building.specs.Made.{Kept};
 
