@@ -1,9 +1,8 @@
-use Rattle.std.proofs.Common.{refl, arith}
+use Rattle.std.proofs.Common.{rules, arith}
 use Rattle.std.proofs.lemmas.Result.{err_from_is_err_and}
 use Rattle.lexer.proofs.Steps.{onward, given, finished_at, stopped_at}
 use Rattle.lexer.proofs.Verdicts.{long_first}
 use Rattle.lexer.proofs.Tallying.{tallied_none, stopped_told}
-use Rattle.lexer.specs.Reading.{Given}
 use Rattle.lexer.proofs.scan.scan.Goals as goal
 use Rattle.lexer.proofs.scan.scan.Goals.{In-Some}
 
@@ -11,32 +10,21 @@ pub returns-then-sheet-gt-SHEET_LIMIT : goal.returns-then-sheet-gt-SHEET_LIMIT
 returns-then-sheet-gt-SHEET_LIMIT c = rw c.at.ensures (long_first _ c.if-sheet-gt-SHEET_LIMIT.true)
 
 pub loop-t-init : goal.loop-t-init
-loop-t-init c = let told = c.default-tally.ensures in (refl, tallied_none _ _ told.0 told.1.0 told.1.1.0)
+loop-t-init c = search (rules, tallied_none)
 
 pub returns-in_err-t : goal.returns-in_err-t
 returns-in_err-t c =
     let p = err_from_is_err_and c.from_residual.result c.from_residual.ensures.1 in
     rw (p.1, p.2) (stopped_told _ _ _ _ c.if-sheet-gt-SHEET_LIMIT.false c.loop-t.invariant.1 (stopped_at c.loop-t.invariant.0 c.in_err-t.ensures.reads.0))
 
--- a token was read, and the next place follows it
-step : (c : In-Some) → Given c.args.sheet.now c.loop-t.reader.at c.in-Some.t c.next.new.self.at
-step c = given c.loop-t.invariant.0 _ _ c.in-Some.is c.in_ok-t.ensures.reads
-
 pub with-tally-requires-clause-few : goal.with-tally-requires-clause-few
-with-tally-requires-clause-few c =
-    let on = onward _ _ _ _ c.loop-t.invariant.1.inside (step c) in
-    omega (arith, on.0, on.1, c.loop-t.invariant.1.few)
+with-tally-requires-clause-few c = grind (arith, onward, given)
 
 pub with-tally-requires-clause-inside : goal.with-tally-requires-clause-inside
-with-tally-requires-clause-inside c =
-    let g = step c in
-    let on = onward _ _ _ _ c.loop-t.invariant.1.inside g in
-    omega (arith, on.1, g.place, g.on)
+with-tally-requires-clause-inside c = grind (arith, onward, given)
 
 pub loop-t-smaller : goal.loop-t-smaller
-loop-t-smaller c =
-    let on = onward _ _ _ _ c.loop-t.invariant.1.inside (given c.loop-t.invariant.0 _ _ c.in-Some.is c.in_ok-t.ensures.reads) in
-    omega arith
+loop-t-smaller c = grind (arith, onward, given)
 
 pub returns : goal.returns
 returns c = c.verdict.ensures _ _ c.if-sheet-gt-SHEET_LIMIT.false c.loop-t.invariant.1 (finished_at c.loop-t.invariant.0 _ _ c.in_default.is c.in_ok-t.ensures.reads)
