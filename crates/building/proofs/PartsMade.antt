@@ -346,7 +346,8 @@ own_answer es used e side (Some x) (Some m) is same single f = subst (λ z. Make
 own_answer es used e side (Some x) None is same single f = elim is [ ]
 
 -- the parts of the members of a union in form
-record PartsOf (es : List TypeEntry) (first size : ℕ) (side : Side) (t : Ty) : Type 0 where
+record PartsOf (es : List TypeEntry) (n first size : ℕ) (side : Side) (t : Ty) : Type 0 where
+  low : first + size ≤ n
   head : Ty
   tail : Types
   is_it : t ≡ union head tail
@@ -357,14 +358,14 @@ record PartsOf (es : List TypeEntry) (first size : ℕ) (side : Side) (t : Ty) :
   own : OwnParts side (head and tail) ps
   brings : Brings ps xs
 
-parts_of : {es : List TypeEntry} {n first size : ℕ} {t : Ty} (side : Side) → Is es n (Union first size) t → InForm t → PartsOf es first size side t
+parts_of : {es : List TypeEntry} {n first size : ℕ} {t : Ty} (side : Side) → Is es n (Union first size) t → InForm t → PartsOf es n first size side t
 parts_of side (is_union {t} {ts} low r) form =
     let fs = members_forms form in
     let o = own_parts_told side (t and ts) in
     let b = arrive (own_forms o.1 fs) in
-    record { head = t; tail = ts; is_it = refl; run = r; members_form = fs; ps = o.0; xs = b.0; own = o.1; brings = b.1 }
+    record { low = low; head = t; tail = ts; is_it = refl; run = r; members_form = fs; ps = o.0; xs = b.0; own = o.1; brings = b.1 }
 
-is_union_part : {es : List TypeEntry} {first size : ℕ} {side : Side} {t p : Ty} (q : PartsOf es first size side t) → UnionOf q.ps p → PartOf side t p
+is_union_part : {es : List TypeEntry} {n first size : ℕ} {side : Side} {t p : Ty} (q : PartsOf es n first size side t) → UnionOf q.ps p → PartOf side t p
 is_union_part {side} {p} q u = subst (λ x. PartOf side x p) (sym q.is_it) (part_union q.own u)
 
 -- a part of the union is the union of these parts
@@ -378,36 +379,30 @@ united_some b (union_any c i) = (any, subst (λ x. In any x) (brings_one c b) i)
 united_some b (union_one {t} c m) = (t, subst (λ x. In t x) (brings_one c b) (m.only t in_first))
 united_some b (union_more {t} c m) = (t, subst (λ x. In t x) (brings_one c b) (m.only t in_first))
 
-module _ (es : List TypeEntry) (side : Side) {used first size from end : ℕ} {e : TypeEntry} (is : e ≡ Union first size) (told : (from ≡ first) × (end ≡ first + size) × (first + size ≤ used)) (long : used ≤ length es) where
-  at : from ≡ first
-  at = told.0
-
-  over : end ≡ first + size
-  over = told.1
-
-  room : end ≤ used
-  room = omega (arith, over, told.2)
-
+module _ (es : List TypeEntry) (side : Side) {used first size from end : ℕ} {e : TypeEntry} (is : e ≡ Union first size) (at : from ≡ first) (over : end ≡ first + size) (long : used ≤ length es) where
   run_here : {ts : Types} → Run es first size ts → Run es from (end - from) ts
   run_here r = run_from from end at over r
 
   pub any_made : SaysAnyPart es from end side true → MakesPart es es used e side (Ok (Some (record { entry = Any; used = used })))
   any_made d low t h form =
       let q = parts_of side (known is h) form in
+      let below = q.low in
       let w = (d (omega arith) (omega arith) (q.head and q.tail) (run_here q.run)).0 refl in
       let u = union_any q.brings (any_arrives q.brings (own_in q.own w.1 w.2)) in
       record { made = any; is_part = is_union_part q u; in_form = form_any; holds = is_any; more = omega arith; within = low; light = omega arith; filled = filled_none es used }
 
   module _ (d : SaysAnyPart es from end side false) where
-    no_any : {t : Ty} (q : PartsOf es first size side t) → In any q.xs → ⊥
+    no_any : {t : Ty} (q : PartsOf es used first size side t) → In any q.xs → ⊥
     no_any q i =
+        let below = q.low in
         let w = own_from q.own (any_given q.brings (own_forms q.own q.members_form) i) in
         both_ways false refl ((d (omega arith) (omega arith) (q.head and q.tail) (run_here q.run)).1 w)
 
     -- the table is the parts ps and the slots ss, which become fs; hs are the members among the parts
     module _ (ps ss fs hs : List TypeEntry) (whole : es ≡ ps ++ ss) (split : length ps ≡ used) (part : hs ≡ slice_range ps from end) where
-      members_held : {t : Ty} (q : PartsOf es first size side t) → Hold ps (length ps) hs (q.head and q.tail)
+      members_held : {t : Ty} (q : PartsOf es used first size side t) → Hold ps (length ps) hs (q.head and q.tail)
       members_held q =
+          let below = q.low in
           let ts = q.head and q.tail in
           let r = run_kept (length ps) (omega arith) (begun ps ss) (subst (λ z. Run z first size ts) whole q.run) in
           let h = run_held (length ps) (omega arith) (omega arith) r in
@@ -417,7 +412,7 @@ module _ (es : List TypeEntry) (side : Side) {used first size from end : ℕ} {e
       pub no_room_made : (gs : List TypeEntry) (o : Option ℕ) {r : Result (Option Root) NoRoom} (n : NoRoom) → r ≡ Err n → length fs ≡ length ss → o ≡ None → AddsParts ps fs hs side o → MakesPart es gs used e side r
       no_room_made gs o n answer same none a low t h form = subst (PartAnswer es gs used side t) (sym answer) (go q.ps refl)
         where
-          q : PartsOf es first size side t
+          q : PartsOf es used first size side t
           q = parts_of side (known is h) form
 
           short : HasNoRoom fs q.xs
@@ -435,7 +430,7 @@ module _ (es : List TypeEntry) (side : Side) {used first size from end : ℕ} {e
               (u.0, is_union_part q v, grind (arith, common_steps))
 
       module _ (o : Option ℕ) (n : ℕ) (some : o ≡ Some n) (a : AddsParts ps fs hs side o) where
-        open_parts : {t : Ty} (q : PartsOf es first size side t) → OpenIn ps fs n q.xs
+        open_parts : {t : Ty} (q : PartsOf es used first size side t) → OpenIn ps fs n q.xs
         open_parts q = subst (AddsParts ps fs hs side) some a (q.head and q.tail) q.ps q.xs (members_held q) q.members_form q.own q.brings (no_any q)
 
         -- the members fit in their slots

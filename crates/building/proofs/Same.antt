@@ -15,9 +15,6 @@ use Rattle.building.specs.Made.{SaysSameType}
 says_no : {es : List TypeEntry} {n m : ℕ} {a b : TypeEntry} → ((s t : Ty) → Is es n a s → Is es m b t → s ≡ t → ⊥) → SaysSameType es n a m b false
 says_no f le le' s t x y = (λ e. absurd (both_ways false refl e), λ e. absurd (f s t x y e))
 
-says_neither : {es : List TypeEntry} {n m : ℕ} {a b : TypeEntry} {r : Bool} → r ≡ false → ((s t : Ty) → Is es n a s → Is es m b t → s ≡ t → ⊥) → SaysSameType es n a m b r
-says_neither neg f le le' s t x y = (λ e. absurd (both_ways false refl (sym neg ∙ e)), λ e. absurd (f s t x y e))
-
 -- the types at two indexes, taken out of the table
 pub at_both : {es : List TypeEntry} {k l : ℕ} {r : Bool} (x y : Root) → x ≡ root_at es k → y ≡ root_at es l → SaysSameType es x.used x.entry y.used y.entry r → SaysSameType es k (entry_at es k) l (entry_at es l) r
 at_both {es} {k} {r} x y p q f =
@@ -129,12 +126,6 @@ strings_same {es} {i} {j} {f} {g} {n} {a} {b} {r} is js d le le' s t hs ht = go 
           λ o. ap string_literal (same_text x y (same.0 o)),
           λ o. same.1 (ap (λ z. z.units) (string_of o)),
         )
-
-pub lengths_apart : {es : List TypeEntry} {i j f m g n : ℕ} {a b : TypeEntry} {r : Bool} → a ≡ StringLiteral f m → b ≡ StringLiteral g n → r ≡ false → (m ≡ n → ⊥) → SaysSameType es i a j b r
-lengths_apart {es} {i} {j} {f} {m} {g} {n} is js neg ne = says_neither neg (λ s t hs ht. go (known is hs) (known js ht))
-  where
-    go : {s t : Ty} → Is es i (StringLiteral f m) s → Is es j (StringLiteral g n) t → s ≡ t → ⊥
-    go (is_string_literal lx p u) (is_string_literal ly q v) o = ne (sym p ∙ ap (λ z. length z.units) (string_of o) ∙ q)
 
 pub not_string : {es : List TypeEntry} {i j f m : ℕ} {a b : TypeEntry} → a ≡ StringLiteral f m → ((first size : ℕ) → b ≡ StringLiteral first size → ⊥) → SaysSameType es i a j b false
 not_string {es} {i} {j} {f} {m} {a} {b} is n = says_no (λ s t hs ht q. go refl (known is hs) q ht)

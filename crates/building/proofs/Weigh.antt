@@ -35,10 +35,6 @@ one_more es first end limit k sum {j} {w} {after} x at-next lt low is d e left t
     capped : (a limit sum w t us after : ℕ) → min a limit ≡ min (sum + (t + us)) limit → w ≡ min t limit → after ≡ min (sum + w) limit → min a limit ≡ min (after + us) limit
     capped a limit sum w t us after p q r = omega arith
 
-no_more : {es : List TypeEntry} {first : ℕ} {us : Types} (size : ℕ) → size ≡ 0 → Run es first size us → weights us ≡ 0
-no_more size e run_end = refl
-no_more size e (run_more x r) = absurd (omega arith)
-
 -- a part or a run that does not stand below the entry
 pub part_missing : (limit : ℕ) {es : List TypeEntry} {n i : ℕ} {e : TypeEntry} {r : Option ℕ} → r ≡ None → (n ≤ length es → n ≤ i) → ((t : Ty) → Is es n e t → i < n) → SaysPartsWeigh es n e limit r
 part_missing limit {es} {n} {i} {e} none out low = subst (SaysPartsWeigh es n e limit) (sym none) (λ le t h. let a = out le in let b = low t h in omega arith)
