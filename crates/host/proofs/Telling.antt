@@ -1,19 +1,16 @@
 -- What is told of a sheet, from what reading and checking answer. Assumes nothing.
-use Rattle.std.proofs.Common.{◌≡◌, ℕ, ◌-◌, ◌/◌, ◌<◌, ◌≤◌, min, List, ◌++◌, length, take, Ok, sym, ap, ◌∙◌, subst, arith}
+use Rattle.std.proofs.Common.{◌≡◌, ℕ, ◌-◌, ◌/◌, ◌<◌, ◌≤◌, min, List, ◌++◌, length, take, sym, ap, ◌∙◌, subst, arith}
 use Rattle.std.proofs.lemmas.List.{ext_get_or, get_or-take, length-take-le}
 use Rattle.lexer.specs.Faults.{FirstFault}
 use Rattle.lexer.specs.Refusals.{number_of}
 use Rattle.lexer.specs.declared.refusal.Refusal.{Refusal}
 use Rattle.types.specs.declared.entries.TypeEntry.{TypeEntry}
 use Rattle.registers.specs.Library.{library}
-use Rattle.parser.specs.declared.reading.Read.{Read as AnyRead}
-use Rattle.parser.specs.declared.tree.TreeEntry.{TreeEntry}
 use Rattle.parser.specs.Syntax.{Expr}
-use Rattle.parser.specs.Reading.{Sizes, Fault, Reads}
+use Rattle.parser.specs.Reading.{Sizes, Fault}
 use Rattle.checker.specs.declared.finding.Finding.{Finding}
 use Rattle.checker.specs.declared.stage.Checked.{Checked}
-use Rattle.checker.specs.Conditions.{Condition}
-use Rattle.checker.specs.Findings.{Findings, none, met, unmet, blank, FirstOf}
+use Rattle.checker.specs.Findings.{blank, FirstOf}
 use Rattle.checker.specs.declared.run.Refused.{Refused as Unchecked}
 use Rattle.checker.specs.declared.run.Refused.TheVariants.{Read, Check}
 use Rattle.checker.specs.Checks.{CheckedAs}
