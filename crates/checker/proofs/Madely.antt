@@ -12,7 +12,7 @@ use Rattle.building.specs.Literals.{Numeral, GivesNumber}
 use Rattle.building.proofs.Filled.{filled_none}
 use Rattle.building.proofs.OneUnion.{in_none}
 use Rattle.building.proofs.LiteralsMade.{literal_laws}
-use Rattle.registers.specs.declared.found.Told.{Told}
+use Rattle.registers.specs.declared.told.Told.{Told}
 use Rattle.registers.specs.Meaning.{Binding, typed, scheme, Meaning}
 use Rattle.registers.specs.Telling.{MadeIn, Tells}
 use Rattle.parser.specs.declared.symbols.Leaf.{Leaf}

@@ -2,7 +2,7 @@
 use Rattle.std.specs.Prelude.{◌≡◌, ℕ, ◌≤◌, Bool, List, [], ◌∷◌, length, Some, Decides, Option}
 use Rattle.types.specs.declared.entries.TypeEntry.{TypeEntry}
 use Rattle.types.specs.Types.{Ty}
-use Rattle.registers.specs.declared.found.Told.{Told}
+use Rattle.registers.specs.declared.told.Told.{Told}
 use Rattle.registers.specs.Meaning.{Binding, Meaning}
 use Rattle.registers.specs.Telling.{Tells}
 use Rattle.types.specs.Table.{Is}

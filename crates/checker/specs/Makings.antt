@@ -7,7 +7,7 @@ use Rattle.types.specs.Table.{Is}
 use Rattle.types.specs.declared.entries.Root.{Root}
 use Rattle.building.specs.Forms.{InForm}
 use Rattle.building.specs.Literals.{Numeral, SpelledString}
-use Rattle.registers.specs.declared.found.Told.{Told}
+use Rattle.registers.specs.declared.told.Told.{Told}
 use Rattle.registers.specs.Meaning.{Binding, Meaning}
 use Rattle.registers.specs.Telling.{Tells}
 use Rattle.parser.specs.declared.symbols.Leaf.{Leaf}

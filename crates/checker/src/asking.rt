@@ -9,7 +9,7 @@ use crate::rules::Rule;
 use crate::store::Store;
 use crate::walk::Operand;
 use parser::symbols::Prefix;
-use registers::found::Told;
+use registers::told::Told;
 use types::entries::{Root, TypeEntry};
 use types::meeting::meets;
 

@@ -6,7 +6,7 @@ use crate::rules::Rule;
 use crate::store::{Store, TooHeavy};
 use building::literals::number_of;
 use parser::symbols::{Leaf, Prefix};
-use registers::found::Told;
+use registers::told::Told;
 use types::entries::{Root, TypeEntry};
 
 impl<'a> Store<'a> {

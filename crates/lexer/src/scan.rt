@@ -8,9 +8,11 @@ use crate::read::{Reader, Token};
 use crate::reasons::Reason;
 use crate::refusal::Refusal;
 
+// No sheet has more bytes.
 const SHEET_LIMIT: usize = 16384;
 
-const TOKEN_LIMIT: usize = 4096;
+// No sheet has more tokens.
+pub const TOKEN_LIMIT: usize = 4096;
 
 const RETURN: &[u8] = b"return";
 

@@ -4,10 +4,11 @@ ghost use Rattle.parser.specs.Reading.{Short};
 ghost use Rattle.parser.specs.Lending.{sizes_of};
 
 use crate::tree::{OperatorEntry, WalkFrame};
+use lexer::scan::TOKEN_LIMIT;
 use types::entries::TypeEntry;
 
-// How many entries the tree table and the two stacks have at least.
-pub const ENTRIES: usize = 4096;
+// How many entries the tree table and the two stacks have at least: each entry of a tree has a token of its own.
+pub const ENTRIES: usize = TOKEN_LIMIT;
 
 // How many the type table has.
 pub const TYPES: usize = 8192;

@@ -1,5 +1,5 @@
-// The tree table and the stacks. A caller lends them, since the project has fixed memory and no heap: so parts are given
-// by index and not boxed, and each table has a kind `Blank`, for entries that are not written yet.
+// The tree table and the stacks. A caller lends them, since reading and checking allocate nothing: so parts are given by
+// index and not boxed, and each table has a kind `Blank`, for entries that are not written yet.
 ghost use Rattle.std.specs.Prelude.{◌≡◌};
 ghost use Rattle.parser.specs.Holds.{awaits, completion};
 

@@ -1,7 +1,7 @@
 -- The names of the library, and what each is bound to. Assumes nothing.
 use Rattle.std.specs.Prelude.{List, [], ◌∷◌, codes}
 use Rattle.types.specs.Types.{any, number, string, boolean, undefined, function, no_types, ◌and◌}
-use Rattle.registers.specs.declared.found.Scheme.TheVariants.{Pair, Head, Tail, List as ListOf}
+use Rattle.registers.specs.declared.told.Scheme.TheVariants.{Pair, Head, Tail, List as ListOf}
 use Rattle.registers.specs.Meaning.{typed, scheme, Meaning, look_up, Row, lines_of}
 
 abbrev pub library_rows : List Row

@@ -4,7 +4,7 @@ use Rattle.std.specs.Str.{bytes_eq}
 use Rattle.types.specs.Types.{Ty}
 use Rattle.building.specs.Forms.{InForm}
 use Rattle.building.specs.Weights.{weight}
-use Rattle.registers.specs.declared.found.Scheme.{Scheme}
+use Rattle.registers.specs.declared.told.Scheme.{Scheme}
 
 abbrev pub Name : Type 0
 Name = List ℕ

@@ -5,8 +5,8 @@ use Rattle.std.specs.Str.{bytes_eq}
 use Rattle.types.specs.Types.{Ty, function, no_types, ◌and◌}
 use Rattle.building.specs.Weights.{weight}
 use Rattle.building.specs.Forms.{InForm, form_any, form_number, form_string, form_boolean, form_undefined, form_function, form_none, form_more}
-use Rattle.registers.specs.declared.found.Scheme.{Scheme}
-use Rattle.registers.specs.declared.found.Scheme.TheVariants.{Pair, Head, Tail, List as ListOf}
+use Rattle.registers.specs.declared.told.Scheme.{Scheme}
+use Rattle.registers.specs.declared.told.Scheme.TheVariants.{Pair, Head, Tail, List as ListOf}
 use Rattle.registers.specs.Meaning.{Name, Binding, typed, scheme, Line, look_up, Row, lines_of, Fit, Sound, nothing}
 use Rattle.registers.specs.Library.{library_rows, library}
 

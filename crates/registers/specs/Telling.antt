@@ -6,7 +6,7 @@ use Rattle.types.specs.Table.{Is}
 use Rattle.types.specs.declared.entries.Root.{Root}
 use Rattle.building.specs.Weights.{weight}
 use Rattle.building.specs.Made.{Filled}
-use Rattle.registers.specs.declared.found.Told.{Told}
+use Rattle.registers.specs.declared.told.Told.{Told}
 use Rattle.registers.specs.Meaning.{Binding, typed, scheme}
 
 -- m is the type t, whose parts are the first entries of the run, fewer than the type weighs

@@ -2,7 +2,7 @@
 ghost use Rattle.registers.specs.Meaning.{nothing};
 ghost use Rattle.registers.specs.Soundness.{nothing_sound};
 
-use crate::found::Told;
+use crate::told::Told;
 use crate::register::{ROOM, Register};
 use types::entries::TypeEntry;
 

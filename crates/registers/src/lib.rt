@@ -2,8 +2,8 @@
 #![tactic(auto)]
 
 pub mod empty;
-pub mod found;
 pub mod library;
 pub mod register;
 mod standing;
 mod table;
+pub mod told;

@@ -2,7 +2,7 @@
 ghost use Rattle.registers.specs.Library.{library};
 ghost use Rattle.registers.specs.Soundness.{library_sound};
 
-use crate::found::Told;
+use crate::told::Told;
 use crate::register::{ROOM, Register};
 use crate::standing::told;
 use crate::table::standing_of;

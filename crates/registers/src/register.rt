@@ -2,11 +2,11 @@
 ghost use Rattle.registers.specs.Meaning.{Meaning, Sound};
 ghost use Rattle.registers.specs.Telling.{Tells};
 
-use crate::found::Told;
+use crate::told::Told;
 use types::entries::TypeEntry;
 
 // How many entries a register may write of an answer: the parts of the type that it tells. The caller lends an array of
-// them, since the project has fixed memory and no heap.
+// them, since checking allocates nothing.
 pub const ROOM: usize = 128;
 
 pub trait Register {

@@ -5,11 +5,11 @@ ghost use Rattle.registers.specs.Meaning.{Fit};
 ghost use Rattle.registers.specs.Standings.{basic_entry, basic_type, basic_types, binding_of};
 ghost use Rattle.registers.specs.Telling.{MadeIn, Tells};
 
-use crate::found::{Scheme, Told};
+use crate::told::{Scheme, Told};
 use crate::register::ROOM;
 use types::entries::{Root, TypeEntry};
 
-// A type without parts.
+// The types without parts that the library has.
 #[derive(Clone, Copy, PartialEq, Eq, Debug)]
 pub enum Basic {
     Any,

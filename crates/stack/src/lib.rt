@@ -4,7 +4,7 @@
 ghost use Rattle.std.specs.Prelude.{◌≡◌, ◌<◌, ◌≤◌, List, [], ◌∷◌, ◌++◌, length, MatchOption};
 ghost use Rattle.stack.specs.Items.{held, room};
 
-// The caller lends the slots, since the project has fixed memory and no heap: so it is a slice and a count, and no `Vec`.
+// The caller lends the slots, since reading and checking allocate nothing: so it is a slice and a count, and no `Vec`.
 #[derive(Drop)]
 pub struct Stack<'a, T> {
     pub slots: &'a mut [T],

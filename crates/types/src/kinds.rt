@@ -3,6 +3,9 @@ ghost use Rattle.types.specs.Kinds.{Right, Says, entry_kind, rank, verdict};
 
 use crate::entries::TypeEntry;
 
+// How many kinds there are.
+pub const KINDS: usize = 12;
+
 // The kinds of types, in rank order.
 #[derive(Clone, Copy, PartialEq, Eq, Debug)]
 pub enum Kind {
@@ -33,14 +36,14 @@ pub enum Verdict {
 
 #[derive(Clone, Copy)]
 struct Row {
-    cells: [Verdict; 12],
+    cells: [Verdict; KINDS],
 }
 
 use Verdict::{ByParts as P, Meet as M, Never as N};
 
 // Rows and columns in rank order. An array of rows, indexed by two kinds, as the project asks for; no match says it at a
 // glance.
-const MEETING: [Row; 12] = [
+const MEETING: [Row; KINDS] = [
     Row {
         cells: [M, M, N, N, N, N, N, N, N, N, N, N],
     },
@@ -88,7 +91,7 @@ pub fn rank_of(k: Kind) -> usize
 }
 
 // The cell of a right table.
-fn cell(table: &[Row; 12], a: Kind, b: Kind) -> Verdict
+fn cell(table: &[Row; KINDS], a: Kind, b: Kind) -> Verdict
     requires { Right table.now }
     ensures { result ≡ verdict a b }
 {

@@ -1,6 +1,6 @@
 use Rattle.std.proofs.Common.{◌≡◌, Some, ap, ◌∙◌, arith}
 use Rattle.types.specs.Table.{is_any}
-use Rattle.registers.specs.declared.found.Told.{Told}
+use Rattle.registers.specs.declared.told.Told.{Told}
 use Rattle.checker.proofs.Madely.{plain_as, told_any, told_typed}
 use Rattle.checker.proofs.store.Store.found_made.Goals as goal
 
