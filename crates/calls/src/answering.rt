@@ -79,10 +79,10 @@ impl Desk {
                 self.write_findings(count.min(room))?;
             }
         }
-        match outcome.checked {
-            Some(checked) => self.write_types(&checked),
-            None => Ok(()),
+        if let Some(checked) = outcome.checked {
+            self.write_types(&checked)?;
         }
+        Ok(())
     }
 
     // Answers one line of the input, given its number.

@@ -65,8 +65,8 @@ fn push_parts(pending: &mut Vec<usize>, entry: TypeEntry) -> anyhow::Result<()> 
     }
 }
 
-// Writes the type at an index, a space before each word. `pending` is a stack to work with. A type of a checked sheet
-// has no more parts than the table has entries.
+// Writes the type at an index, a space before each word. `pending` is a stack to work with. The parts are counted, since over
+// entries out of order they need not end; a type of a checked sheet has no more of them than the table has entries.
 pub fn spell(
     out: &mut String,
     pending: &mut Vec<usize>,

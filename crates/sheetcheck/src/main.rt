@@ -4,13 +4,14 @@
 mod telling;
 
 use checker::finding::BLANK;
+use parser::tables::ENTRIES;
 use std::io::Read;
 use std::{env, fs};
 use tables::Tables;
 use telling::Sheet;
 
 // No sheet has more findings: each of its expressions has a token of its own, and two findings at most.
-const FINDINGS: usize = 8192;
+const FINDINGS: usize = 2 * ENTRIES;
 
 fn bytes_of(rt: &HostRuntime, name: &str) -> anyhow::Result<Vec<u8>> {
     if name != "-" {

@@ -3,6 +3,7 @@ use anyhow::bail;
 use checker::calls::Answer;
 use checker::finding::{Finding, Kind};
 use lexer::positions::position_of;
+use lexer::read::Reader;
 use lexer::refusal::Refusal;
 use std::str::from_utf8;
 
@@ -13,23 +14,17 @@ pub struct Sheet<'a> {
     pub bytes: &'a [u8],
 }
 
-fn is_word_byte(b: u8) -> bool {
-    b.is_ascii_alphanumeric() || matches!(b, b'_' | b'$')
-}
-
-// The word that a text begins with.
-fn word_of(text: &[u8]) -> &[u8] {
-    let end = text.iter().position(|b| !is_word_byte(*b));
-    &text[..end.unwrap_or(text.len())]
-}
-
 impl<'a> Sheet<'a> {
     // The name at a place.
     fn name_at(&self, place: usize) -> &'a str {
-        let Some(text) = self.bytes.get(place..) else {
-            return "";
+        let mut reader = Reader {
+            sheet: self.bytes,
+            at: place,
         };
-        from_utf8(word_of(text)).unwrap_or("")
+        match reader.next() {
+            Ok(Some(token)) => from_utf8(token.text).unwrap_or(""),
+            _ => "",
+        }
     }
 
     fn tell_place(&self, rt: &HostRuntime, place: usize) -> anyhow::Result<()> {

@@ -1,4 +1,5 @@
-// A sheet is read, checked, and asked for the type of its first expression.
+// A sheet is read, checked, and asked for the type of its first expression. The calls stand one by one, since tests/misuse
+// alters them.
 #![tactic(auto)]
 
 use checker::asked::type_of;
