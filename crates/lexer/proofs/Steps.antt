@@ -18,7 +18,6 @@ past_gap sheet at g l e = grind (arith, common_steps)
 
 -- l and r are what is left of the sheet, before and after the gap
 module _ (sheet : List ℕ) (at g : ℕ) (l r : List ℕ) (before : l ≡ drop at sheet) (after : r ≡ drop (at + g) sheet) (gap : Gap l g) (within : g ≤ length l) where
-
   pub stops : (e : Refusal) → e.place ≡ at + g → Why r e.reason → Stopped sheet at e
   stops e p w = grind arith
 
