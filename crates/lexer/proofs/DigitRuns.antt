@@ -1,6 +1,6 @@
 -- How far digits, a fraction, an exponent and a number reach. Assumes nothing.
 use Rattle.std.proofs.lemmas.Grind.{common_steps}
-use Rattle.std.proofs.Common.{◌≡◌, ℕ, zero, suc, ◌+◌, ◌-◌, ◌<◌, ◌≤◌, ◌⊎◌, List, [], ◌∷◌, ◌++◌, length, get_or, take, drop, sym, refl, ap, ◌∙◌, subst, inl, inr, ⊎_elim, add_assoc, arith, length-append, length-drop, get_or-drop, get_or-take}
+use Rattle.std.proofs.Common.{rules, ◌≡◌, ℕ, zero, suc, ◌+◌, ◌-◌, ◌<◌, ◌≤◌, ◌⊎◌, List, [], ◌∷◌, ◌++◌, length, get_or, take, drop, sym, refl, ap, ◌∙◌, subst, inl, inr, ⊎_elim, add_assoc, arith, length-append, length-drop, get_or-drop, get_or-take}
 use Rattle.std.proofs.ByRecursion.{All-from_get_or, All-get_or}
 use Rattle.std.proofs.Math.Seq.{take-add}
 use Rattle.std.proofs.lemmas.List.{length-take-le, drop-take, take_at, take-take, drop-drop, get_or-append_right, drop_at}
@@ -60,7 +60,7 @@ byte_of : (bs : List ℕ) (m b : ℕ) → 0 < b → get_or (take m bs) 0 0 ≡ b
 byte_of bs m b p e = grind arith
 
 pub no_dot : (bs : List ℕ) → (get_or bs 0 0 ≡ 46 → ⊥) → Most Fraction bs 0
-no_dot bs h = none_there Fraction bs whole (λ m w f. ⊎_elim (no_bytes bs m w) (λ t. absurd (h (byte_of bs m 46 (omega arith) t.0))) (fraction_cases _ f))
+no_dot bs h = search (rules, none_there, whole, no_bytes, byte_of, fraction_cases)
 
 pub lone_dot : (bs : List ℕ) (d : ℕ) → Run (Of Digit Digit) (drop 1 bs) d → d ≡ 0 → Most Fraction bs 0
 lone_dot bs d r z = none_there Fraction bs whole (λ m w f. ⊎_elim (no_bytes bs m w) (λ t. let g = tail_digits bs 1 m d w t.1 r in omega arith) (fraction_cases _ f))
@@ -186,11 +186,7 @@ module _ (bs : List ℕ) (w f e : ℕ) (some-digits : 0 < w) (r : Run (Of Digit 
       m fs es h same y x
 
   tail_most : Most TailText (drop w bs) (f + e)
-  tail_most = record {
-    within = omega (arith, p.within, q'.within, length-drop f (drop w bs));
-    is = subst TailText (sym (take-add f e (drop w bs))) (tail _ _ p.is q'.is);
-    most = λ m h t. tail_upto m _ h refl t;
-  }
+  tail_most = grind (arith, common_steps, length-drop, take-add, tail, tail_upto)
 
   digits_longest : Most Digits bs w
   digits_longest = record { within = r.within; is = digits_of bs w r some-digits; most = λ m h d. digits_most bs w m r h d }

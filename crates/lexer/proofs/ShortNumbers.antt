@@ -1,12 +1,12 @@
 -- A number of at most four bytes is in range. Assumes nothing.
-use Rattle.std.proofs.Common.{Bool, Some, None, Option, Decides, sym, ◌∙◌, ◌≡◌, ℕ, zero, suc, ◌+◌, ◌-◌, ◌*◌, ◌/◌, ◌%◌, ◌^◌, ◌<◌, ◌≤◌, List, ◌++◌, map, length, drop, refl, ap, inl, inr, ⊎_elim, pow-suc, zero-mul, arith, length-append, length-drop}
+use Rattle.std.proofs.Common.{rules, Bool, Some, None, Option, Decides, sym, ◌∙◌, ◌≡◌, ℕ, zero, suc, ◌+◌, ◌-◌, ◌*◌, ◌/◌, ◌%◌, ◌^◌, ◌<◌, ◌≤◌, List, ◌++◌, map, length, drop, refl, ap, inl, inr, ⊎_elim, pow-suc, zero-mul, arith, length-append, length-drop}
 use native.Mathlib.Nat.{pow-le-pow_right}
 use Rattle.std.specs.List.{AllByRecursion}
 use Rattle.std.proofs.lemmas.Int.Digits.{number_lt}
 use Rattle.std.proofs.ByRecursion.{All-append, All-map, All-weaker}
 use Rattle.std.proofs.lemmas.List.{length-map}
 use Rattle.std.proofs.lemmas.Bool.{cases_lt, false≢true}
-use Rattle.lexer.specs.Numbers.{DigitByte, read, Scale, none, plain, plus, minus, amount, NumberText}
+use Rattle.lexer.specs.Numbers.{DigitByte, read, Scale, amount, NumberText}
 use Rattle.std.specs.Option.{is_some}
 use Rattle.lexer.specs.Decimals.{Canonical, Values, ReadAs}
 use Rattle.lexer.specs.Mantissas.{Stripped}
@@ -46,10 +46,7 @@ read_below ds n h w =
     omega (arith, number_lt 10 (map (λ b. b - 48) ds) under, ap (λ i. 10 ^ i) (length-map ds (λ b. b - 48)), pow-le-pow_right p w)
 
 scale_below : (es : List ℕ) {up down : ℕ} → Scale es up down → length es ≤ 3 → (up < 10 ^ 2) × (down < 10 ^ 2)
-scale_below _ none w = (omega arith, omega arith)
-scale_below _ (plain {ds = ds} h) w = (read_below ds 2 h.1 (omega arith), omega arith)
-scale_below _ (plus {ds = ds} h) w = (read_below ds 2 h.1 (omega arith), omega arith)
-scale_below _ (minus {ds = ds} h) w = (omega arith, read_below ds 2 h.1 (omega arith))
+scale_below es h w = search (rules, read_below)
 
 pub short_number : (t : List ℕ) → length t ≤ 4 → NumberText t → InRange t
 short_number _ w (n, up, down, amount is fs es u d a b s) =

@@ -1,6 +1,6 @@
 -- One step of reading. Assumes nothing.
 use Rattle.std.proofs.lemmas.Grind.{common_steps}
-use Rattle.std.proofs.Common.{◌≡◌, ℕ, ◌+◌, ◌-◌, ◌<◌, ◌≤◌, List, length, take, drop, Some, None, Ok, Err, Option, Result, sym, subst, arith, length-drop}
+use Rattle.std.proofs.Common.{rules, ◌≡◌, ℕ, ◌+◌, ◌-◌, ◌<◌, ◌≤◌, List, length, take, drop, Some, None, Ok, Err, Option, Result, sym, subst, arith, length-drop}
 use Rattle.std.specs.Option.{ok_or}
 use Rattle.lexer.specs.Gaps.{Gap}
 use Rattle.lexer.specs.Sizes.{Small}
@@ -31,11 +31,7 @@ module _ (sheet : List ℕ) (at g : ℕ) (l r : List ℕ) (before : l ≡ drop a
 -- what a step gave
 
 pub onward : (sheet : List ℕ) (at : ℕ) (t : Token) (next : ℕ) → at ≤ length sheet → Given sheet at t next → (at < next) × (next ≤ length sheet)
-onward sheet at t next h g =
-    let some_bytes = token_some _ _ _ g.token in
-    let room = g.token.within in
-    let left = length-drop (at + g.gap) sheet in
-    (omega (arith, g.on), omega (arith, g.on))
+onward sheet at t next h g = search (rules, token_some, length-drop)
 
 -- the same, where the reader's sheet is known to be the sheet
 module _ {s sheet : List ℕ} (same : s ≡ sheet) where

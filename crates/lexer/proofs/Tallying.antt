@@ -1,12 +1,12 @@
 -- One token more in a tally, and the end of one. Assumes nothing.
-use Rattle.std.proofs.Common.{Bool, true, false, eqb, ◌≡◌, ℕ, suc, ◌+◌, ◌<◌, ◌≤◌, ◌⊎◌, List, [], ◌∷◌, length, Some, None, codes, Decides, Option, sym, refl, ap, ◌∙◌, subst, inl, inr, ⊎_elim, arith}
+use Rattle.std.proofs.Common.{rules, Bool, true, false, eqb, ◌≡◌, ℕ, suc, ◌+◌, ◌<◌, ◌≤◌, ◌⊎◌, List, [], ◌∷◌, length, Some, None, codes, Decides, Option, sym, refl, ap, ◌∙◌, subst, inl, inr, ⊎_elim, arith}
 use Rattle.std.proofs.lemmas.Bool.{cases_Bool, false≢true, eqb-true, eqb-false}
 use Rattle.std.specs.Bool.{then_some}
 use Rattle.std.specs.Option.{option_or}
 use Rattle.lexer.specs.Sizes.{Small}
 use Rattle.lexer.specs.Faults.{FirstFault}
 use Rattle.lexer.specs.declared.reasons.Reason.TheVariants.{LineFeed, ManyTokens}
-use Rattle.lexer.specs.Reading.{Lexes, done, refused, token, Ending, finished, stopped, Given, Finished, Stopped}
+use Rattle.lexer.specs.Reading.{Lexes, done, refused, token, Ending, finished, Given, Finished, Stopped}
 use Rattle.lexer.specs.declared.refusal.Refusal.{Refusal}
 use Rattle.lexer.specs.Scanning.{Tok, text, nth, next_here, next_later, BrokenLine, broken_line, FeedBetween, TokenFault, Clean}
 use Rattle.lexer.specs.Tallies.{Knows, knows_none, knows_last, joined, OverAt, Seen, Whole, Tallied, Breaks}
@@ -173,6 +173,4 @@ module _ (sheet : List ℕ) (at : ℕ) (a : Tally) (short : length sheet ≤ 163
 
 -- the tokens end in a refusal
 pub stopped_told : (sheet : List ℕ) (at : ℕ) (a : Tally) (e : Refusal) → length sheet ≤ 16384 → Tallied sheet at a → Stopped sheet at e → FirstFault (TokenFault sheet) e
-stopped_told sheet at a e short s f =
-    let all = s.rest [] _ (refused f.gap f.past f.why) in
-    stopped_first sheet short all.tokens e (subst (λ i. Lexes sheet 0 all.tokens (stopped e.reason i)) (sym f.place) all.lexes)
+stopped_told sheet at a e short s f = search (rules, refused, stopped_first)

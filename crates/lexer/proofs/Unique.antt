@@ -1,5 +1,5 @@
 -- A sheet has one list of tokens and one ending. Assumes nothing.
-use Rattle.std.proofs.Common.{rules, ◌≡◌, ℕ, ◌+◌, ◌<◌, ◌≤◌, List, length, take, drop, sym, refl, ap, ◌∙◌, subst, arith, length-drop}
+use Rattle.std.proofs.Common.{rules, ◌≡◌, ℕ, ◌+◌, ◌<◌, ◌≤◌, List, length, take, drop, sym, refl, ap, subst, arith, length-drop}
 use Rattle.lexer.specs.Gaps.{Piece, Gap, ends, more}
 use Rattle.lexer.specs.Tokens.{TokenAt, Spelled}
 use Rattle.lexer.specs.declared.kinds.Kind.{Kind}
@@ -31,9 +31,7 @@ length_once : (bs : List ℕ) (k j : Kind) (n m : ℕ) → TokenAt bs k n → To
 length_once bs k j n m s t = grind arith
 
 kind_once : (bs : List ℕ) (k j : Kind) (n m : ℕ) → TokenAt bs k n → TokenAt bs j m → k ≡ j
-kind_once bs k j n m s t =
-    let u = subst (λ i. Spelled j (take i bs)) (sym (length_once bs k j n m s t)) t.spelled in
-    same_kind k j (take n bs) s.spelled u (sym (first k _ s.spelled) ∙ first j _ u)
+kind_once bs k j n m s t = search (rules, length_once, same_kind, first)
 
 module _ (bs : List ℕ) where
   why_some : (f : Reason) → Why bs f → 0 < length bs

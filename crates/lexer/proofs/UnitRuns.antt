@@ -1,6 +1,6 @@
 -- The units that a decoder gives, one call after another, beside those of a list. Assumes nothing.
 use Rattle.std.proofs.lemmas.Grind.{common_steps}
-use Rattle.std.proofs.Common.{arith, true, false, Bool, eqb, Decides, MatchOption, IfSome, length, ◌≡◌, ℕ, List, [], ◌∷◌, ◌++◌, get_or, drop, Option, Some, None, Iter, sym, refl, ap, ◌∙◌, subst}
+use Rattle.std.proofs.Common.{rules, arith, true, false, Bool, eqb, Decides, MatchOption, IfSome, length, ◌≡◌, ℕ, List, [], ◌∷◌, ◌++◌, get_or, drop, Option, Some, None, Iter, sym, refl, ap, ◌∙◌, subst}
 use Rattle.std.proofs.lemmas.Bool.{false≢true, eqb-true, eq-eqb}
 use Rattle.std.proofs.lemmas.Option.{none-some}
 use Rattle.std.proofs.lemmas.List.{append_cancel_left}
@@ -11,7 +11,7 @@ use Rattle.std.specs.Slice.Iter.{iter_rest, iter_steps}
 use Rattle.std.specs.declared.iter.Copied.{Copied}
 use Rattle.lexer.specs.Classes.{class}
 use Rattle.lexer.specs.Strings.{Writes, Closes, more, Decodes, quoted}
-use Rattle.lexer.specs.Decoding.{NoUnit, GivesUnit, StringAt, NoString}
+use Rattle.lexer.specs.Decoding.{GivesUnit, StringAt, NoString}
 use Rattle.lexer.specs.declared.classes.Class.TheVariants.{Quote}
 use Rattle.lexer.specs.declared.read.Decoder.{Decoder}
 use Rattle.lexer.specs.declared.strings.Quoted.{Quoted}
@@ -41,9 +41,7 @@ module _ (q : ℕ) (is : class q ≡ Quote) where
 
   -- one more call
   gave_next : (o : Option ℕ) (s t : Decoder) (us : List ℕ) → q ≡ get_or s.text.now 0 0 → GivesUnit s o t → Closes q (drop s.at s.text.now) us [] → Front o us
-  gave_next None s t [] e g c = refl
-  gave_next None s t (u ∷ us) e g c = absurd (no_more q is _ (subst (λ i. NoUnit i (drop s.at s.text.now)) (sym e) g.unit.0) c)
-  gave_next (Some x) s t us e g c = let less = one_less s t x us e g c in (less.0, less.1)
+  gave_next o s t us e g c = search (rules, no_more, one_less)
 
 -- the same of a list
 list_first : (ys : List ℕ) (s t : Copied (Iter ℕ)) → Yields (copied_steps iter_steps) s ys t → iter_rest (copied_source s) ≡ ys ++ iter_rest (copied_source t)

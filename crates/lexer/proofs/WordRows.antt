@@ -1,5 +1,5 @@
 -- The words in rows by their first letters. Assumes nothing.
-use Rattle.std.proofs.Common.{◌≡◌, ℕ, ◌+◌, ◌%◌, ◌<◌, ◌≤◌, Bool, true, false, eqb, ltb, List, [], length, get_or, Bor, Decides, Option, Some, None, MatchOption, sym, refl, ◌∙◌, subst, arith}
+use Rattle.std.proofs.Common.{rules, ◌≡◌, ℕ, ◌+◌, ◌%◌, ◌<◌, ◌≤◌, Bool, true, false, eqb, ltb, List, [], length, get_or, Bor, Decides, Option, MatchOption, sym, refl, ◌∙◌, subst, arith}
 use lib.Pointwise.{pointwise}
 use Rattle.std.specs.List.{ContainsAt as Has, AllByRecursion, IsAnyAnswer, HoldsAt}
 use Rattle.std.proofs.ByRecursion.{All-get_or, all-has}
@@ -63,5 +63,4 @@ module _ (table : List Row) (x : List ℕ) (row : ℕ) (is : row ≡ row_of x) (
 
   -- what `is_some_and` tells of the row that was looked up, if there is one
   pub word_told : (o : Option (Bor Row)) (r : Bool) (P : Bor Row → Type 0) → MatchOption o (length table ≤ row) (λ w. (row < length table) × HoldsAt (λ y. w.now ≡ y) table row) → MatchOption o (r ≡ false) P → ((w : Bor Row) → P w → IsAnyAnswer (λ y b. pointwise eqb y.now x ≡ b) w.now.now r) → Decides r (Has words x)
-  word_told (Some w) r P h k f = in_row w.now h.0 h.1 r (f w k)
-  word_told None r P h k f = (λ e. absurd (false≢true (sym k ∙ e)), λ e. absurd (no_row h e))
+  word_told o r P h k f = search (rules, in_row, no_row)
