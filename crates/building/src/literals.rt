@@ -5,6 +5,7 @@ ghost use Rattle.building.specs.Made.{Kept};
 
 use crate::put::put;
 use lexer::decimal::decimal;
+use lexer::decimals::BIAS;
 use lexer::read::Decoder;
 use types::entries::{Root, TypeEntry};
 
@@ -13,7 +14,7 @@ fn exponent_of(power: u16) -> i16
     requires { power ≤ 590 }
     ensures { result +ℤ pos 300 ≡ pos power }
 {
-    power as i16 - 300
+    power as i16 - BIAS as i16
 }
 
 // The type of the number that a text writes. None where it writes none.

@@ -215,14 +215,5 @@ some_run bs n d r =
     (λ h. let z : n ≡ 0 = omega arith in absurd (r.stops (omega (arith, nonempty bs Digit d (λ o. let y : ◌≡◌ {A = ℕ} 0 1 = cc in omega arith))) (inl (ap (λ i. class (get_or bs i 0)) z ∙ d))))
     (cases_lt 0 n)
 
--- digits that neither a dot nor an e follows
-pub whole_most : (bs : List ℕ) (w : ℕ) → class (get_or bs 0 0) ≡ Digit → Run (Of Digit Digit) bs w → (get_or bs w 0 ≡ 46 → ⊥) → (get_or bs w 0 ≡ 101 → ⊥) → Most NumberText bs w
-whole_most bs w d r no-point no-letter =
-    let same : w + 0 ≡ w = omega arith in
-    let twice : w + 0 + 0 ≡ w = omega arith in
-    let next : get_or (drop w bs) 0 0 ≡ get_or bs w 0 = get_or-drop w bs 0 0 ∙ ap (λ i. get_or bs i 0) same in
-    subst (Most NumberText bs) twice
-    (number_most bs w 0 0 (some_run bs w d r) r (no_dot (drop w bs) (λ x. no-point (sym next ∙ x))) (no_e (drop (w + 0) bs) (λ x. no-letter (sym next ∙ ap (λ i. get_or (drop i bs) 0 0) (sym same) ∙ x))))
-
 pub moved_most : (P : List ℕ → Type 0) (n : ℕ) {xs ys : List ℕ} → xs ≡ ys → Most P xs n → Most P ys n
 moved_most P n e r = subst (λ l. Most P l n) e r

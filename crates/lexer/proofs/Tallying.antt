@@ -1,5 +1,5 @@
 -- One token more in a tally, and the end of one. Assumes nothing.
-use Rattle.std.proofs.Common.{rules, Bool, true, false, eqb, ◌≡◌, ℕ, suc, ◌+◌, ◌<◌, ◌≤◌, ◌⊎◌, List, [], ◌∷◌, length, Some, None, codes, Decides, Option, sym, refl, ap, ◌∙◌, subst, inl, inr, ⊎_elim, arith}
+use Rattle.std.proofs.Common.{rules, Bool, true, false, eqb, ◌≡◌, ℕ, suc, ◌+◌, ◌<◌, ◌≤◌, ◌⊎◌, List, [], ◌∷◌, length, Some, None, codes, Decides, Option, sym, refl, ap, ◌∙◌, subst, inl, inr, ⊎_elim, arith, take, drop, IfSome}
 use Rattle.std.proofs.lemmas.Bool.{cases_Bool, false≢true, eqb-true, eqb-false}
 use Rattle.std.specs.Bool.{then_some}
 use Rattle.std.specs.Option.{option_or}
@@ -8,8 +8,8 @@ use Rattle.lexer.specs.Faults.{FirstFault}
 use Rattle.lexer.specs.declared.reasons.Reason.TheVariants.{LineFeed, ManyTokens}
 use Rattle.lexer.specs.Reading.{Lexes, done, refused, token, Ending, finished, Given, Finished, Stopped}
 use Rattle.lexer.specs.declared.refusal.Refusal.{Refusal}
-use Rattle.lexer.specs.Scanning.{Tok, text, nth, next_here, next_later, BrokenLine, broken_line, FeedBetween, TokenFault, Clean}
-use Rattle.lexer.specs.Tallies.{Knows, knows_none, knows_last, joined, OverAt, Seen, Whole, Tallied, Breaks}
+use Rattle.lexer.specs.Scanning.{Tok, text, nth, next_here, next_later, BrokenLine, broken_line, TokenFault, Clean}
+use Rattle.lexer.specs.Tallies.{tok_of, joined, EndsIn, OverAt, Seen, Whole, Tallied, Breaks}
 use Rattle.lexer.specs.declared.read.Token.{Token}
 use Rattle.lexer.specs.declared.scan.Tally.{Tally}
 use Rattle.lexer.proofs.Steps.{onward}
@@ -19,13 +19,13 @@ use Rattle.lexer.proofs.Verdicts.{stopped_first, line_first, many_first, clean}
 -- the line that is recorded, by whether one was before
 pub data Recorded (a : Tally) (sheet : List ℕ) (t : Token) (r : Option ℕ) : Type 0 where
   before : (q : ℕ) → a.line ≡ Some q → r ≡ Some q → Recorded a sheet t r
-  here : a.line ≡ None → Breaks a sheet t → r ≡ Some t.at → Recorded a sheet t r
-  nowhere : a.line ≡ None → (Breaks a sheet t → ⊥) → r ≡ None → Recorded a sheet t r
+  here : a.line ≡ None → Breaks a.last sheet t → r ≡ Some t.at → Recorded a sheet t r
+  nowhere : a.line ≡ None → (Breaks a.last sheet t → ⊥) → r ≡ None → Recorded a sheet t r
 
-pub recorded : (a : Tally) (sheet : List ℕ) (t : Token) (r : Bool) (l : Option ℕ) → Decides r (Breaks a sheet t) → l ≡ option_or a.line (then_some r t.at) → Recorded a sheet t l
+pub recorded : (a : Tally) (sheet : List ℕ) (t : Token) (r : Bool) (l : Option ℕ) → Decides r (Breaks a.last sheet t) → l ≡ option_or a.line (then_some r t.at) → Recorded a sheet t l
 recorded a sheet t r l = go a.line r refl
   where
-    go : (x : Option ℕ) (y : Bool) → a.line ≡ x → Decides y (Breaks a sheet t) → l ≡ option_or x (then_some y t.at) → Recorded a sheet t l
+    go : (x : Option ℕ) (y : Bool) → a.line ≡ x → Decides y (Breaks a.last sheet t) → l ≡ option_or x (then_some y t.at) → Recorded a sheet t l
     go (Some q) y f d e = before q f e
     go None true f d e = here f (d.0 refl) e
     go None false f d e = nowhere f (λ h. false≢true (d.1 h)) e
@@ -45,116 +45,118 @@ none_seen (broken_line t u n o f e) = elim n [ ]
 further : {sheet : List ℕ} {s : Tok} {us : List Tok} {p : ℕ} → BrokenLine sheet us p → BrokenLine sheet (s ∷ us) p
 further (broken_line t u n o f e) = broken_line t u (next_later n) o f e
 
-module _ (sheet : List ℕ) (at next : ℕ) (a b : Tally) (t : Token)
-    (early : (p : ℕ) → a.line ≡ Some p → p < at) (inside : at ≤ length sheet) (g : Given sheet at t next)
-    (count : b.count ≡ a.count + 1)
-    (many : b.over ≡ option_or a.over (then_some (eqb a.count 4096) t.at))
-    (line : Recorded a sheet t b.line)
-    (end : b.end ≡ t.at + length t.text.now)
-    (returns : Decides b.returns (t.text.now ≡ codes "return"))
+module _ (sheet : List ℕ) (at next : ℕ) (a : Tally) (t : Token) (was : Tallied sheet at a) (g : Given sheet at t next)
+    (over line : Option ℕ)
+    (many : over ≡ option_or a.over (then_some (eqb a.count 4096) t.at))
+    (kept : Recorded a sheet t line)
   where
+    abbrev b : Tally
+    b = record { count = a.count + 1; over = over; line = line; last = Some t }
+
     abbrev tok : Tok
-    tok = (t.kind, at + g.gap, length t.text.now)
+    tok = tok_of t
 
     on : (at < next) × (next ≤ length sheet)
-    on = onward sheet at t next inside g
+    on = onward sheet at t next was.inside g
 
     -- its text is the token's
     worded : text sheet tok ≡ t.text.now
-    worded = sym g.text
+    worded = ap (λ i. take (length t.text.now) (drop i sheet)) g.place ∙ sym g.text
 
     still_seen : (p : ℕ) → Seen a p → Seen b p
     still_seen p s = grind arith
 
     -- a break at the token is seen
-    now_seen : Breaks a sheet t → Seen b t.at
+    now_seen : Breaks a.last sheet t → Seen b t.at
     now_seen h = grind arith
 
-    over : (tokens : List Tok) → nth tokens (a.count + 0) ≡ tok → OverAt tokens a.count a.over → OverAt tokens b.count b.over
-    over tokens first old = subst (OverAt tokens b.count) (sym many) (go a.over old)
+    over_at : (tokens : List Tok) → nth tokens (a.count + 0) ≡ tok → OverAt tokens a.count a.over → OverAt tokens b.count over
+    over_at tokens first old = subst (OverAt tokens b.count) (sym many) (go a.over old)
       where
         go : (o : Option ℕ) → OverAt tokens a.count o → OverAt tokens b.count (option_or o (then_some (eqb a.count 4096) t.at))
         go (Some p) h = (omega arith, h.1)
         go None h =
             ⊎_elim
-            (λ e. let i : 4096 ≡ a.count + 0 = omega (arith, eqb-true _ _ e) in rw e (omega (arith, eqb-true _ _ e), ap (λ k. (nth tokens k).1) i ∙ (ap (λ x. x.1) first ∙ sym g.place)))
+            (λ e. let i : 4096 ≡ a.count + 0 = omega (arith, eqb-true _ _ e) in rw e (omega (arith, eqb-true _ _ e), ap (λ k. (nth tokens k).1) i ∙ ap (λ x. x.1) first))
             (λ e. rw e (omega (arith, eqb-false _ _ e)))
             (cases_Bool (eqb a.count 4096))
 
-    whole : {o : Option Tok} → Knows sheet a o → (us : List Tok) (fin : Ending) → Whole sheet a o (tok ∷ us) fin → Whole sheet b (Some tok) us fin
-    whole {o} k us fin w = record {
+    left : (o : Option Token) (us : List Tok) (p : ℕ) → BrokenLine sheet (tok ∷ us) p → BrokenLine sheet (joined o (tok ∷ us)) p
+    left None us p x = x
+    left (Some s) us p x = further x
+
+    lines : (o : Option Token) → IfSome o (λ s. text sheet (tok_of s) ≡ s.text.now) → (Breaks o sheet t → Seen b t.at) → (us : List Tok) (p : ℕ) →
+        BrokenLine sheet (joined o (tok ∷ us)) p → Seen b p ⊎ BrokenLine sheet (tok ∷ us) p
+    lines None k see us p x = inr x
+    lines (Some s) k see us p (broken_line _ _ next_here o f e) =
+        inl (subst (Seen b) (sym e) (see (⊎_elim (λ x. inl (sym k ∙ x)) (λ x. inr (sym worded ∙ x)) o, f)))
+    lines (Some s) k see us p (broken_line v u (next_later m) o f e) = inr (broken_line v u m o f e)
+
+    at_token : (o : Option Token) → IfSome o (λ s. text sheet (tok_of s) ≡ s.text.now) → (us : List Tok) → Breaks o sheet t → BrokenLine sheet (joined o (tok ∷ us)) t.at
+    at_token None k us h = absurd h
+    at_token (Some s) k us h = broken_line (tok_of s) tok next_here (⊎_elim (λ x. inl (k ∙ x)) (λ x. inr (worded ∙ x)) h.0) h.1 refl
+
+    whole : (us : List Tok) (fin : Ending) → Whole sheet a (tok ∷ us) fin → Whole sheet b us fin
+    whole us fin w = record {
       tokens = w.tokens;
       lexes = w.lexes;
       long = omega (arith, w.long);
       same = λ j. let i : b.count + j ≡ a.count + suc j = omega arith in ap (nth w.tokens) i ∙ w.same (suc j);
-      over = over w.tokens (w.same 0) w.over;
-      lines = λ p x. ⊎_elim (λ s. inl (still_seen p s)) (lines k p) (w.lines p x);
-      seen = λ p e. seen p e line;
-      left = λ p x. w.left p (left k p x);
+      over = over_at w.tokens (w.same 0) w.over;
+      lines = λ p x. ⊎_elim (λ s. inl (still_seen p s)) (lines a.last was.worded now_seen us p) (w.lines p x);
+      seen = λ p e. seen p e kept;
+      left = λ p x. w.left p (left a.last us p x);
     }
       where
-        left : {o : Option Tok} → Knows sheet a o → (p : ℕ) → BrokenLine sheet (tok ∷ us) p → BrokenLine sheet (joined o (tok ∷ us)) p
-        left (knows_none z) p x = x
-        left (knows_last n d r) p x = further x
-
-        lines : {o : Option Tok} → Knows sheet a o → (p : ℕ) → BrokenLine sheet (joined o (tok ∷ us)) p → Seen b p ⊎ BrokenLine sheet (tok ∷ us) p
-        lines (knows_none z) p x = inr x
-        lines (knows_last n d r) p (broken_line _ _ next_here o f e) =
-            let there : p ≡ t.at = e ∙ sym g.place in
-            let feed = subst (λ i. FeedBetween sheet i t.at) (sym d) (subst (FeedBetween sheet _) (sym g.place) f) in
-            inl (subst (Seen b) (sym there) (now_seen (n, (⊎_elim (λ x. inl (r.1 x)) (λ x. inr (sym worded ∙ x)) o, feed))))
-        lines (knows_last n d r) p (broken_line s u (next_later m) o f e) = inr (broken_line s u m o f e)
-
-        at_token : {o : Option Tok} → Knows sheet a o → Breaks a sheet t → BrokenLine sheet (joined o (tok ∷ us)) t.at
-        at_token (knows_none z) h = absurd (omega (arith, h.0))
-        at_token (knows_last {t = s} n d r) h =
-            let feed = subst (λ i. FeedBetween sheet i (at + g.gap)) d (subst (FeedBetween sheet _) g.place h.1.1) in
-            broken_line s tok next_here (⊎_elim (λ x. inl (r.0 x)) (λ x. inr (worded ∙ x)) h.1.0) feed g.place
-
-        seen : (p : ℕ) → b.line ≡ Some p → Recorded a sheet t b.line → BrokenLine sheet w.tokens p
+        seen : (p : ℕ) → line ≡ Some p → Recorded a sheet t line → BrokenLine sheet w.tokens p
         seen p e (before q x f) = w.seen p (x ∙ ap Some (some_once f e))
-        seen p e (here x h f) = subst (BrokenLine sheet w.tokens) (some_once f e) (w.left t.at (at_token k h))
+        seen p e (here x h f) = subst (BrokenLine sheet w.tokens) (some_once f e) (w.left t.at (at_token a.last was.worded us h))
         seen p e (nowhere x h f) = absurd (not_both f e)
 
-    pub tallied : (o : Option Tok) → a.count ≤ at → Knows sheet a o → ((us : List Tok) (fin : Ending) → Lexes sheet at us fin → Whole sheet a o us fin) → Tallied sheet next b
-    tallied o few k rest = record {
+    reads : (us : List Tok) (fin : Ending) → Lexes sheet next us fin → Lexes sheet at (tok ∷ us) fin
+    reads us fin l =
+        subst (λ i. Lexes sheet at ((t.kind, i, length t.text.now) ∷ us) fin) (sym g.place)
+        (token g.gap (length t.text.now) g.past g.token (subst (Small t.kind) g.text g.small) (subst (λ i. Lexes sheet i us fin) g.on l))
+
+    pub tallied : Tallied sheet next b
+    tallied = record {
       inside = on.1;
-      few = omega (arith, on.0);
-      last = Some tok;
-      knows = knows_last (omega arith) (end ∙ ap (λ i. i + length t.text.now) g.place) (λ e. worded ∙ returns.0 e, λ e. returns.1 (sym worded ∙ e));
+      few = omega (arith, on.0, was.few);
+      ends = omega (arith, g.place, g.on);
+      worded = worded;
       early = λ p e. grind (arith, token_some);
-      rest = λ us fin l. whole k us fin (rest (tok ∷ us) fin (token g.gap (length t.text.now) g.past g.token (subst (Small t.kind) g.text g.small) (subst (λ i. Lexes sheet i us fin) g.on l)));
+      rest = λ us fin l. whole us fin (was.rest (tok ∷ us) fin (reads us fin l));
     }
 
-pub tallied_none : (sheet : List ℕ) (a : Tally) → a.count ≡ 0 → a.over ≡ None → a.line ≡ None → Tallied sheet 0 a
-tallied_none sheet a z v n = record {
+pub tallied_none : (sheet : List ℕ) (a : Tally) → a.count ≡ 0 → a.over ≡ None → a.line ≡ None → a.last ≡ None → Tallied sheet 0 a
+tallied_none sheet a z v n l = record {
   inside = omega arith;
   few = omega arith;
-  last = None;
-  knows = knows_none z;
+  ends = subst (EndsIn 0) (sym l) tt;
+  worded = subst (λ o. IfSome o (λ t. text sheet (tok_of t) ≡ t.text.now)) (sym l) tt;
   early = λ p e. grind arith;
-  rest = λ us fin l. record {
+  rest = λ us fin x. record {
     tokens = us;
-    lexes = l;
+    lexes = x;
     long = omega arith;
     same = λ j. let i : a.count + j ≡ j = omega arith in ap (nth us) i;
     over = subst (OverAt us a.count) (sym v) (omega arith);
-    lines = λ p x. inr x;
+    lines = λ p b. inr (subst (λ o. BrokenLine sheet (joined o us) p) (sym l) b);
     seen = λ p e. grind arith;
-    left = λ p x. x;
+    left = λ p b. subst (λ o. BrokenLine sheet (joined o us) p) l b;
   };
 }
 
 -- all tokens are counted
 
 module _ (sheet : List ℕ) (at : ℕ) (a : Tally) (short : length sheet ≤ 16384) (s : Tallied sheet at a) (f : Finished sheet at) where
-  abbrev all : Whole sheet a s.last [] finished
+  abbrev all : Whole sheet a [] finished
   all = s.rest [] finished (done f.gap f.past f.all)
 
   every_line : (p : ℕ) → BrokenLine sheet all.tokens p → Seen a p
-  every_line p b = ⊎_elim (λ x. x) (λ x. absurd (none s.last x)) (all.lines p b)
+  every_line p b = ⊎_elim (λ x. x) (λ x. absurd (none a.last x)) (all.lines p b)
     where
-      none : (o : Option Tok) → BrokenLine sheet (joined o []) p → ⊥
+      none : (o : Option Token) → BrokenLine sheet (joined o []) p → ⊥
       none None x = none_seen x
       none (Some t) x = last_seen x
 

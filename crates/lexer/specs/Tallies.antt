@@ -1,19 +1,21 @@
 -- What a scan has seen so far. No public contract cites it. Assumes nothing.
-use Rattle.std.specs.Prelude.{◌≡◌, ℕ, ◌+◌, ◌<◌, ◌≤◌, true, ◌⊎◌, List, ◌∷◌, length, Some, None, codes, Decides, Option}
+use Rattle.std.specs.Prelude.{◌≡◌, ℕ, ◌+◌, ◌<◌, ◌≤◌, ◌⊎◌, List, ◌∷◌, length, Some, None, codes, Option, IfSome, MatchOption}
 use Rattle.lexer.specs.Reading.{Lexes, Ending}
 use Rattle.lexer.specs.Scanning.{Tok, text, nth, BrokenLine, FeedBetween}
 use Rattle.lexer.specs.declared.read.Token.{Token}
 use Rattle.lexer.specs.declared.scan.Tally.{Tally}
 
--- what the tally has of the last token
-pub data Knows (sheet : List ℕ) (a : Tally) : Option Tok → Type 0 where
-  knows_none : a.count ≡ 0 → Knows sheet a None
-  knows_last : {t : Tok} → 0 < a.count → a.end ≡ t.1 + t.2 → Decides a.returns (text sheet t ≡ codes "return") → Knows sheet a (Some t)
+abbrev pub tok_of : Token → Tok
+tok_of t = (t.kind, t.at, length t.text.now)
 
 -- the last token, if there is one, and then us
-abbrev pub joined : Option Tok → List Tok → List Tok
+abbrev pub joined : Option Token → List Tok → List Tok
 joined None us = us
-joined (Some t) us = t ∷ us
+joined (Some t) us = tok_of t ∷ us
+
+-- the last token, if there is one, ends at n or before it
+abbrev pub EndsIn : ℕ → Option Token → Type 0
+EndsIn n last = IfSome last (λ t. t.at + length t.text.now ≤ n)
 
 -- the place of the 4,097th of the tokens, where n counts so many
 abbrev pub OverAt : List Tok → ℕ → Option ℕ → Type 0
@@ -25,24 +27,25 @@ abbrev pub Seen : Tally → ℕ → Type 0
 Seen a p = (q : ℕ) × (a.line ≡ Some q) × (q ≤ p)
 
 -- the tokens us after those that are counted make the sheet's
-pub record Whole (sheet : List ℕ) (a : Tally) (last : Option Tok) (us : List Tok) (end : Ending) : Type 0 where
+pub record Whole (sheet : List ℕ) (a : Tally) (us : List Tok) (end : Ending) : Type 0 where
   pub tokens : List Tok
   pub lexes : Lexes sheet 0 tokens end
   pub long : length tokens ≡ a.count + length us
   pub same : (j : ℕ) → nth tokens (a.count + j) ≡ nth us j
   pub over : OverAt tokens a.count a.over
-  pub lines : (p : ℕ) → BrokenLine sheet tokens p → Seen a p ⊎ BrokenLine sheet (joined last us) p
+  pub lines : (p : ℕ) → BrokenLine sheet tokens p → Seen a p ⊎ BrokenLine sheet (joined a.last us) p
   pub seen : (p : ℕ) → a.line ≡ Some p → BrokenLine sheet tokens p
-  pub left : (p : ℕ) → BrokenLine sheet (joined last us) p → BrokenLine sheet tokens p
+  pub left : (p : ℕ) → BrokenLine sheet (joined a.last us) p → BrokenLine sheet tokens p
 
 pub record Tallied (sheet : List ℕ) (at : ℕ) (a : Tally) : Type 0 where
   pub inside : at ≤ length sheet
   pub few : a.count ≤ at
-  pub last : Option Tok
-  pub knows : Knows sheet a last
+  pub ends : EndsIn at a.last
+  pub worded : IfSome a.last (λ t. text sheet (tok_of t) ≡ t.text.now)
   pub early : (p : ℕ) → a.line ≡ Some p → p < at
-  pub rest : (us : List Tok) (end : Ending) → Lexes sheet at us end → Whole sheet a last us end
+  pub rest : (us : List Tok) (end : Ending) → Lexes sheet at us end → Whole sheet a us end
 
 -- the token breaks a line that the last one is on
-abbrev pub Breaks : Tally → List ℕ → Token → Type 0
-Breaks a sheet t = (0 < a.count) × (((a.returns ≡ true) ⊎ (t.text.now ≡ codes "=>")) × FeedBetween sheet a.end t.at)
+abbrev pub Breaks : Option Token → List ℕ → Token → Type 0
+Breaks last sheet t =
+    MatchOption last ⊥ (λ s. ((s.text.now ≡ codes "return") ⊎ (t.text.now ≡ codes "=>")) × FeedBetween sheet (s.at + length s.text.now) t.at)

@@ -4,6 +4,7 @@ ghost use Rattle.lexer.specs.Refusals.{number_of, words_of};
 
 use std::fmt;
 
+// Each with its number. 8 to 11 and 15 to 19 are kept for parts of the language that are not in yet.
 #[derive(Clone, Copy, PartialEq, Eq, Debug)]
 pub enum Reason {
     // a table under its size

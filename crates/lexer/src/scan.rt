@@ -2,7 +2,7 @@
 ghost use Rattle.std.specs.Prelude.{ℕ, ◌+◌, ◌<◌, ◌≤◌, List, length, Decides};
 ghost use Rattle.lexer.specs.Reading.{Given, Finished};
 ghost use Rattle.lexer.specs.Scanning.{FeedBetween, Scans};
-ghost use Rattle.lexer.specs.Tallies.{Breaks, Tallied};
+ghost use Rattle.lexer.specs.Tallies.{EndsIn, Breaks, Tallied};
 
 use crate::read::{Reader, Token};
 use crate::reasons::Reason;
@@ -19,17 +19,16 @@ const RETURN: &[u8] = b"return";
 const ARROW: &[u8] = b"=>";
 
 // What a scan has seen.
-#[derive(Clone, Copy, Default)]
-struct Tally {
+#[derive(Clone, Copy)]
+struct Tally<'a> {
     // how many tokens
     count: usize,
     // the place of the 4,097th, if there are so many
     over: Option<usize>,
     // the first token that a line feed parts from the one before it, where none may
     line: Option<usize>,
-    // where the last token ends, and whether it is `return`
-    end: usize,
-    returns: bool,
+    // the last token, if there is one
+    last: Option<Token<'a>>,
 }
 
 // Whether a line feed stands from one place on and before another.
@@ -39,19 +38,23 @@ fn has_feed(sheet: &[u8], from: usize, to: usize) -> bool
     sheet.iter().take(to).skip(from).any(|b| *b == b'\n')
 }
 
-impl Tally {
+impl<'a> Tally<'a> {
     // Whether a line feed parts a token from the one before it, where none may.
     fn breaks(self, sheet: &[u8], t: Token) -> bool
-        ensures { Decides result (Breaks self sheet.now t.entry) }
+        requires { EndsIn (length sheet.now) self.last }
+        ensures { Decides result (Breaks self.entry.last sheet.now t.entry) }
     {
-        self.count > 0 && (self.returns || t.text == ARROW) && has_feed(sheet, self.end, t.at)
+        self.last.is_some_and(|last| {
+            (last.text == RETURN || t.text == ARROW)
+                && has_feed(sheet, last.at + last.text.len(), t.at)
+        })
     }
 
     // One token more.
-    fn with(self, sheet: &[u8], t: Token) -> Tally
+    fn with(self, sheet: &[u8], t: Token<'a>) -> Tally<'a>
         requires few { self.count < 16384 }
-        requires inside { t.at + length t.text.now ≤ length sheet.now }
-        ensures { (at next : ℕ) → Tallied sheet.now at self → Given sheet.now at t.entry next → Tallied sheet.now next result }
+        requires ends { EndsIn (length sheet.now) self.last }
+        ensures { (at next : ℕ) → Tallied sheet.now at self.entry → Given sheet.now at t.entry next → Tallied sheet.now next result }
     {
         let many = self.count == TOKEN_LIMIT;
         let broken = self.breaks(sheet, t);
@@ -59,14 +62,13 @@ impl Tally {
             count: self.count + 1,
             over: self.over.or(many.then_some(t.at)),
             line: self.line.or(broken.then_some(t.at)),
-            end: t.at + t.text.len(),
-            returns: t.text == RETURN,
+            last: Some(t),
         }
     }
 
     // The first fault of a sheet whose tokens are all counted.
     fn verdict(self) -> Result<usize, Refusal>
-        ensures { (sheet : List ℕ) (at : ℕ) → length sheet ≤ 16384 → Tallied sheet at self → Finished sheet at → Scans sheet result }
+        ensures { (sheet : List ℕ) (at : ℕ) → length sheet ≤ 16384 → Tallied sheet at self.entry → Finished sheet at → Scans sheet result }
     {
         if let Some(place) = self.line {
             return Err(Reason::LineFeed.at(place));
@@ -86,7 +88,13 @@ pub fn scan(sheet: &[u8]) -> Result<usize, Refusal>
         return Err(Reason::LongSheet.at(SHEET_LIMIT));
     }
     let mut reader = Reader { sheet, at: 0 };
-    let mut tally = Tally::default();
+    // written out: of what `Default::default()` gives, the borrow checker doesn't yet follow the loan through the loop
+    let mut tally = Tally {
+        count: 0,
+        over: None,
+        line: None,
+        last: None,
+    };
     while let Some(t) = reader.next()? {
         tally = tally.with(sheet, t);
     }

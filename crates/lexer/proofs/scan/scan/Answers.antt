@@ -20,8 +20,8 @@ returns-in_err-t c =
 pub with-tally-requires-clause-few : goal.with-tally-requires-clause-few
 with-tally-requires-clause-few c = grind (arith, onward, given)
 
-pub with-tally-requires-clause-inside : goal.with-tally-requires-clause-inside
-with-tally-requires-clause-inside c = grind (arith, onward, given)
+pub with-tally-requires-clause-ends : goal.with-tally-requires-clause-ends
+with-tally-requires-clause-ends c = grind (arith, onward, given)
 
 pub loop-t-smaller : goal.loop-t-smaller
 loop-t-smaller c = grind (arith, onward, given)
