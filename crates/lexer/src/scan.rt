@@ -7,6 +7,7 @@ ghost use Rattle.lexer.specs.Tallies.{EndsIn, Breaks, Tallied};
 use crate::read::{Reader, Token};
 use crate::reasons::Reason;
 use crate::refusal::Refusal;
+use crate::runs::after;
 
 // No sheet has more bytes.
 const SHEET_LIMIT: usize = 16384;
@@ -35,7 +36,8 @@ struct Tally<'a> {
 fn has_feed(sheet: &[u8], from: usize, to: usize) -> bool
     ensures { Decides result (FeedBetween sheet.now from to) }
 {
-    sheet.iter().take(to).skip(from).any(|b| *b == b'\n')
+    let before = &sheet[..to.min(sheet.len())];
+    after(before, from).contains(&b'\n')
 }
 
 impl<'a> Tally<'a> {
