@@ -1,5 +1,5 @@
 -- What the functions that ask conditions say. No public contract cites it. Assumes nothing.
-use Rattle.std.specs.Prelude.{◌≡◌, ℕ, ◌≤◌, Bool, List, [], ◌∷◌, length, Some, Decides, Option}
+use Rattle.std.specs.Prelude.{◌≡◌, ℕ, ◌≤◌, Bool, List, [], ◌∷◌, length, Decides, Option}
 use Rattle.types.specs.declared.entries.TypeEntry.{TypeEntry}
 use Rattle.types.specs.Types.{Ty}
 use Rattle.registers.specs.declared.told.Told.{Told}
@@ -48,10 +48,6 @@ AsksEither f s v g = s.used ≤ length (entries s) → (t : Ty) → Is (entries 
 abbrev pub AsksCompare : First Finding → Store → Operand → Operand → First Finding → Type 0
 AsksCompare f s a b g =
     s.used ≤ length (entries s) → (t u : Ty) → Is (entries s) s.used a.entry t → Is (entries s) s.used b.entry u → Asks f (compares b.place t u ∷ []) g
-
--- r says whether what a register told is a binding
-abbrev pub SaysBound : Option Told → Bool → Type 0
-SaysBound found r = (o : Option Binding) (room : List TypeEntry) → Tells o found room → Decides r ((b : Binding) × (o ≡ Some b))
 
 -- whether the name at a place is bound, by what a register told
 abbrev pub AsksBound : First Finding → ℕ → Option Told → First Finding → Type 0

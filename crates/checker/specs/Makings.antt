@@ -33,8 +33,8 @@ MakesLiteral s leaf text r m =
     (ts : List Ty) (sheet : List ℕ) (Γ : Meaning) (p n : ℕ) (t : Ty) (cs : List Condition) → Tabled s ts → text ≡ part sheet p n → (leaf ≢ Name)
     → LeafRule sheet Γ p n leaf t cs → Ready s r t m
 
-abbrev pub MakesFound : Store → Option Told → List TypeEntry → Store → Result Root TooHeavy → Type 0
-MakesFound s found room r m = (ts : List Ty) (o : Option Binding) → Tabled s ts → length room ≡ 128 → Tells o found room → Ready s r (type_of o) m
+abbrev pub MakesTold : Store → Option Told → List TypeEntry → Store → Result Root TooHeavy → Type 0
+MakesTold s found room r m = (ts : List Ty) (o : Option Binding) → Tabled s ts → length room ≡ 128 → Tells o found room → Ready s r (type_of o) m
 
 -- the same of a name, by what the register stands for
 abbrev pub MakesName : Store → Meaning → List ℕ → Store → Result Root TooHeavy → Type 0

@@ -20,7 +20,8 @@ fn is_orderly(i: usize, e: TypeEntry) -> bool
         TypeEntry::StringLiteral { first, count } | TypeEntry::Union { first, count } => {
             run_below(first, count, i)
         }
-        TypeEntry::Function { first, count } => first < i && count < i - first,
+        // the result is the entry after the parameters
+        TypeEntry::Function { first, count } => count < i && run_below(first, count + 1, i),
         TypeEntry::Pair { head, tail } => head < i && tail < i,
         TypeEntry::List { element } => element < i,
         TypeEntry::Any
@@ -47,7 +48,7 @@ fn is_part(types: &[TypeEntry], i: usize) -> bool
 fn is_head(types: &[TypeEntry], i: usize) -> bool
     ensures { Decides result (Orderly i (entry_at types.now i) × NoUnit (entry_at types.now i)) }
 {
-    types.get(i).is_some_and(|e| is_orderly(i, *e) && !matches!(e, TypeEntry::CodeUnit(_)))
+    is_part(types, i) && !matches!(types.get(i), Some(TypeEntry::CodeUnit(_)))
 }
 
 // Whether the entries of parts are in order.

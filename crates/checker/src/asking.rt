@@ -1,6 +1,6 @@
 // Conditions: each that is not met is a finding.
 ghost use Rattle.std.specs.Prelude.{◌≡◌};
-ghost use Rattle.checker.specs.Askings.{AsksBound, AsksCompare, AsksEither, AsksFits, AsksInfix, AsksPrefix, AsksThat, SaysBound};
+ghost use Rattle.checker.specs.Askings.{AsksBound, AsksCompare, AsksEither, AsksFits, AsksInfix, AsksPrefix, AsksThat};
 
 use crate::conditions::{comparable, meets_number_or_string};
 use crate::finding::{Finding, Kind};
@@ -12,13 +12,6 @@ use parser::symbols::Prefix;
 use registers::told::Told;
 use types::entries::{Root, TypeEntry};
 use types::meeting::meets;
-
-// Whether a register told a binding.
-fn is_bound(found: Option<Told>) -> bool
-    ensures { SaysBound found result }
-{
-    found.is_some()
-}
 
 impl<'a> First<'a, Finding> {
     // A finding, where a condition is not met.
@@ -36,7 +29,7 @@ impl<'a> First<'a, Finding> {
         ensures lent { self.new.slots.ghost_name ≡ self.old.slots.ghost_name }
         ensures asked { AsksBound self.old place found self.new }
     {
-        self.ask(is_bound(found), Kind::UnknownName, place);
+        self.ask(found.is_some(), Kind::UnknownName, place);
     }
 
     // Asks an operand for a type without parts.

@@ -8,7 +8,8 @@ pub enum Call<'a> {
     Check { sheet: &'a [u8] },
 }
 
-// What one call answers.
+// What one call answers. It is no `Option<Result<..>>`, which is no plainer: the answers have names, and calls of another
+// kind will answer otherwise.
 #[derive(Clone, Copy)]
 pub enum Answer {
     // no call was made: a lent list has to hold something before there is an answer

@@ -4,8 +4,8 @@ ghost use Rattle.parser.specs.Lending.{Lent, sizes_of};
 ghost use Rattle.checker.specs.Checks.{Checks};
 ghost use Rattle.checker.specs.Walks.{Walks};
 
-use crate::finding::{BLANK, Finding};
-use crate::first::{First, blank_out};
+use crate::finding::{Finding, blank_out};
+use crate::first::First;
 use crate::proper::proper;
 use crate::stage::Checked;
 use crate::store::{Store, TooHeavy};
@@ -65,7 +65,7 @@ pub fn check<F: Register, S: Register>(
     ensures checks { Checks (sizes_of (length tree.now) tables.old) sheet.now tree.now reading (F.Register.meaning first.now) result findings.new tables.new.types.now }
     ensures lent { Lent tables.old tables.new }
 {
-    blank_out(findings, BLANK);
+    blank_out(findings);
     if tables.is_short(tree.len()) {
         return Err((Reason::ShortTable.at(0), reading));
     }
@@ -86,7 +86,7 @@ pub fn check<F: Register, S: Register>(
         findings,
     );
     if walked.is_err() {
-        blank_out(findings, BLANK);
+        blank_out(findings);
     }
     walked.map_err(|_| (Reason::HeavySheet.at(0), reading))
 }

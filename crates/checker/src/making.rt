@@ -1,6 +1,6 @@
 // The types of expressions, made in the type table.
 ghost use Rattle.std.specs.Prelude.{◌≡◌};
-ghost use Rattle.checker.specs.Makings.{MakesFound, MakesInfix, MakesLiteral, MakesNumber, MakesPrefix};
+ghost use Rattle.checker.specs.Makings.{MakesInfix, MakesLiteral, MakesNumber, MakesPrefix, MakesTold};
 
 use crate::rules::Rule;
 use crate::store::{Store, TooHeavy};
@@ -71,9 +71,9 @@ impl<'a> Store<'a> {
     }
 
     // The type of a name, by what a register told of it.
-    pub fn found_made(&mut self, found: Option<Told>, room: &[TypeEntry]) -> Result<Root, TooHeavy>
+    pub fn told_made(&mut self, found: Option<Told>, room: &[TypeEntry]) -> Result<Root, TooHeavy>
         ensures lent { self.new.entries.ghost_name ≡ self.old.entries.ghost_name }
-        ensures makes { MakesFound self.old found room.now self.new result }
+        ensures makes { MakesTold self.old found room.now self.new result }
     {
         // the first two arms apart: joined, the proof loses what stands in the answer
         match found {

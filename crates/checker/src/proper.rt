@@ -4,8 +4,9 @@ ghost use Rattle.parser.specs.Table.{AllProper, Earlier, Expression, Part, Prope
 ghost use Rattle.checker.specs.Entries.{StatementEntry};
 
 use parser::tree::TreeEntry;
+use types::compare::run_below;
 
-// The entry at an index, which past the end of the table is blank.
+// The entry at an index. A table of any length may be asked: past its end an entry is blank, which is never in order.
 pub fn entry_at(tree: &[TreeEntry], i: usize) -> TreeEntry
     ensures { result ≡ tree_at tree.now i }
 {
@@ -49,7 +50,7 @@ fn is_earlier(tree: &[TreeEntry], i: usize, before: Option<usize>) -> bool
 fn lies_in(sheet_len: usize, place: usize, len: usize) -> bool
     ensures { Decides result ((place < sheet_len) × (place + len ≤ sheet_len)) }
 {
-    place < sheet_len && len <= sheet_len - place
+    place < sheet_len && run_below(place, len, sheet_len)
 }
 
 // Whether entry i is in order.

@@ -45,7 +45,9 @@ impl From<Refused> for Answer {
     }
 }
 
-// Reads a sheet, and checks it in the scope of the first register, as `check` does.
+// Reads a sheet, and checks it in the scope of the first register, as `check` does. The registers, the tree, the tables and
+// the findings are parameters one by one, here and below: a read writes the tree and a check reads it, and of what is lent on
+// inside a struct a proof knows the length alone.
 pub fn read_and_check<F: Register, S: Register>(
     sheet: &[u8],
     first: &F,
@@ -111,7 +113,7 @@ pub fn run<F: Register, S: Register>(
 {
     let mut last = None;
     let made = calls.len().min(said.len());
-    // Not over `said.iter_mut()` as well: the proof then knows no answer afterwards.
+    // By index: of what is written through `said.iter_mut()` beside the calls, a proof would know the length alone.
     for (i, call) in calls[..made].iter().enumerate() {
         let outcome = call.perform(first, second, tree, tables, findings);
         said[i] = said_of(&outcome);

@@ -1,15 +1,16 @@
-// The steps of a check, from the frames that wait to the last note.
+// The steps of a check: one frame after the other, until none waits.
 ghost use Rattle.checker.specs.Standing.{Onward, Runs, state};
 
 use crate::finding::Finding;
 use crate::first::First;
 use crate::store::{Store, TooHeavy};
 use crate::walk::{Source, Walk};
+use parser::tables::ENTRIES;
 use parser::tree::WalkFrame;
 use registers::register::Register;
 
-// No tree of 4,096 entries takes more steps. They are counted, since over entries out of order a walk need not end.
-const STEPS: usize = 8192;
+// No tree of `ENTRIES` entries takes more steps. They are counted, since over entries out of order a walk need not end.
+const STEPS: usize = 2 * ENTRIES;
 
 impl<'a> Walk<'a> {
     // Does what a frame asks for. It goes by an enum, not by a closure: frames lie in a lent slice, so they are plain data.

@@ -16,7 +16,8 @@ use types::entries::{Root, TypeEntry};
 #[derive(Clone, Copy)]
 pub struct TooHeavy;
 
-// The slice is lent. By the clauses `lent` of the methods it is still the caller's, who finds there what they wrote.
+// The type table, which is lent. Of a slice that is lent in a struct a proof knows only what the clauses tell, so each method
+// that writes says in `lent` that it is the same one.
 #[derive(Drop)]
 pub struct Store<'a> {
     pub entries: &'a mut [TypeEntry],
@@ -93,7 +94,7 @@ impl<'a> Store<'a> {
         self.used = made.used;
         self.count = count + 1;
         self.load = load;
-        // Not by `get_mut`: of what is written through it a proof knows the length alone.
+        // By index: of what is written through `get_mut`, a proof would know the length alone.
         self.entries[head_of(count)] = made.entry;
         Ok(())
     }

@@ -24,10 +24,8 @@ impl<'a, R> Source<'a, R> {
     fn part(&self, place: usize, len: usize) -> &[u8]
         ensures { result.now ≡ take len (drop place self.now.sheet.now) }
     {
-        match self.sheet.get(place..) {
-            Some(rest) => rest.get(..len).unwrap_or(rest),
-            None => &[],
-        }
+        let rest = self.sheet.get(place..).unwrap_or(&[]);
+        rest.get(..len).unwrap_or(rest)
     }
 }
 
@@ -48,7 +46,7 @@ impl<'a> Walk<'a> {
     {
         let found = source.names.ask(text, &mut self.room);
         findings.ask_bound(place, found);
-        store.found_made(found, &self.room)
+        store.told_made(found, &self.room)
     }
 
     // A token.

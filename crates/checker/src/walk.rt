@@ -22,8 +22,8 @@ pub struct Source<'a, R> {
     pub names: &'a R,
 }
 
-// The stacks of a walk. The findings and the types are lent beside it, since a caller learns what a slice holds in the
-// end only where no more than one struct stands around it.
+// The stacks of a walk. The findings and the types are lent beside it: of a loan two structs deep a proof knows the length
+// alone.
 #[derive(Drop)]
 pub struct Walk<'a> {
     // what is still to be done

@@ -4,13 +4,22 @@ ghost use Rattle.host.specs.Layout.{word, row, rows, replaced};
 
 use checker::finding::Finding;
 
+// How many bytes a number takes.
+pub const WORD: usize = 4;
+
+// How many bytes stand before the findings: two counts.
+pub const HEAD: usize = 2 * WORD;
+
+// How many bytes a finding takes: its kind, and its place.
+const ROW: usize = 2 * WORD;
+
 // Writes the four lowest bytes of a number.
 pub fn put(out: &mut [u8], at: usize, value: usize)
     requires { at + 4 ≤ length out.old }
     ensures { out.new ≡ replaced out.old at (word value) }
 {
     let bytes = value.to_le_bytes();
-    out[at..at + 4].copy_from_slice(&bytes[0..4]);
+    out[at..at + WORD].copy_from_slice(&bytes[..WORD]);
 }
 
 // Writes a finding: its kind, and its place.
@@ -19,17 +28,17 @@ fn put_finding(out: &mut [u8], at: usize, f: Finding)
     ensures { out.new ≡ replaced out.old at (row f) }
 {
     put(out, at, usize::from(f.kind.number()));
-    put(out, at + 4, f.place);
+    put(out, at + WORD, f.place);
 }
 
-// Writes the first of `count` findings after the first eight bytes, as many as are listed and have room.
+// Writes the first of `count` findings after the head, as many as are listed and have room.
 pub fn put_findings(out: &mut [u8], findings: &[Finding], count: usize)
     requires { 8 ≤ length out.old }
     ensures { out.new ≡ replaced out.old 8 (rows (take (min (min count (length findings.now)) ((length out.old - 8) / 8)) findings.now)) }
 {
-    let n = count.min(findings.len()).min((out.len() - 8) / 8);
+    let n = count.min(findings.len()).min((out.len() - HEAD) / ROW);
     // By index: of what is written through the chunks of `out`, a proof would know the length alone.
     for (i, finding) in findings[..n].iter().enumerate() {
-        put_finding(out, 8 + 8 * i, *finding);
+        put_finding(out, HEAD + ROW * i, *finding);
     }
 }

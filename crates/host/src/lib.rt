@@ -8,7 +8,7 @@ ghost use Rattle.host.specs.Answers.{ReadAnswers, CheckAnswers};
 
 mod layout;
 
-use crate::layout::{put, put_findings};
+use crate::layout::{HEAD, WORD, put, put_findings};
 use checker::finding::{BLANK, Finding};
 use checker::run::read_and_check;
 use checker::stage::Checked;
@@ -43,7 +43,7 @@ fn checked(out: &mut [u8], c: &Checked, findings: &[Finding]) -> u32
     ensures number { result ≡ 0 }
 {
     put(out, 0, c.count());
-    put(out, 4, c.expressions());
+    put(out, WORD, c.expressions());
     put_findings(out, findings, c.count());
     0
 }
@@ -53,10 +53,10 @@ fn checked(out: &mut [u8], c: &Checked, findings: &[Finding]) -> u32
 pub fn sheet_read(sheet: &[u8], out: &mut [u8]) -> u32
     ensures { ReadAnswers sheet.now out.old out.new result }
 {
-    if out.len() < 8 {
+    if out.len() < HEAD {
         return NO_ROOM;
     }
-    // made here and in `sheet_check`: a struct of four arrays that a function gives back is cleared twice
+    // made here and in `sheet_check`: a struct of four arrays that a function gives back is filled twice
     let mut tree = [TreeEntry::Blank; ENTRIES];
     let mut operators = [OperatorEntry::Blank; ENTRIES];
     let mut frames = [WalkFrame::Blank; ENTRIES];
@@ -79,7 +79,7 @@ pub fn sheet_read(sheet: &[u8], out: &mut [u8]) -> u32
 pub fn sheet_check(sheet: &[u8], out: &mut [u8]) -> u32
     ensures { CheckAnswers sheet.now out.old out.new result }
 {
-    if out.len() < 8 {
+    if out.len() < HEAD {
         return NO_ROOM;
     }
     let mut tree = [TreeEntry::Blank; ENTRIES];

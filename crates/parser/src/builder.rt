@@ -44,7 +44,8 @@ pub struct Builder<'a> {
 }
 
 // Two facts stand at most methods: `HasRoom`, that each table has room for one entry more, and `Grown n`, that the tables
-// are the ones that they were, with at most n entries more in use.
+// are the ones that they were, with at most n entries more in use. They are clauses and no invariant: `Grown` speaks of a
+// builder before and after, and a full builder, which has no room, is one too.
 impl<'a> Builder<'a> {
     pub fn new(tree: &'a mut [TreeEntry], parts: &'a mut [OperatorEntry]) -> Self
         ensures lent { result.tree.ghost_name ≡ tree.entry.ghost_name }
@@ -200,7 +201,7 @@ impl<'a> Builder<'a> {
         }
     }
 
-    // What the tokens of a sheet are, which ends at `end`, once all of them are read.
+    // The reading, once all tokens are taken; `end` is the sheet's length.
     pub fn finish(&self, position: Position, end: usize) -> Result<Read, Refusal>
         ensures { (sheet : List ℕ) (ls : List Tok) → end ≡ length sheet → Lexes sheet 0 ls finished → length ls ≤ 4096 → self.now.used ≤ length ls → Sofar (length sheet) (tokens sheet ls) self.now.tree.now (held self.now.parts) (progress self.now position) → Parses sheet self.now.tree.now result }
     {

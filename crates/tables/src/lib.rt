@@ -16,14 +16,16 @@ use registers::library::Library;
 use std::alloc::{AllocError, Global};
 use types::entries::TypeEntry;
 
-// What is answered of a sheet. One that was checked can be asked for its types.
+// What is answered of a sheet. `checked` stands beside the answer, since types can be asked of it alone.
 #[derive(Drop)]
 pub struct Outcome {
     pub answer: Answer,
     pub checked: Option<Checked>,
 }
 
-// Checks a sheet by the library over tables of any sizes. It takes slices, since a proof loses sight of a `Vec` that is lent inside a struct.
+// Checks a sheet by the library over tables of any sizes. It takes slices, since a proof loses sight of a `Vec` that is lent
+// inside a struct. It goes through `run` with one call, not through `read_and_check`: the law that is proved is of whole runs,
+// and a run is the call that the programs make, by a rule of the project.
 fn check_over(
     sheet: &[u8],
     tree: &mut [TreeEntry],

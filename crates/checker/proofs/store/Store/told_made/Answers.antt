@@ -2,7 +2,7 @@ use Rattle.std.proofs.Common.{◌≡◌, Some, ap, ◌∙◌, arith}
 use Rattle.types.specs.Table.{is_any}
 use Rattle.registers.specs.declared.told.Told.{Told}
 use Rattle.checker.proofs.Madely.{plain_as, told_any, told_typed}
-use Rattle.checker.proofs.store.Store.found_made.Goals as goal
+use Rattle.checker.proofs.store.Store.told_made.Goals as goal
 
 pub returns-in-None-clause-makes : goal.returns-in-None-clause-makes
 returns-in-None-clause-makes c = λ ts o tabled long told.
