@@ -90,7 +90,7 @@ pub fn scan(sheet: &[u8]) -> Result<usize, Refusal>
         return Err(Reason::LongSheet.at(SHEET_LIMIT));
     }
     let mut reader = Reader { sheet, at: 0 };
-    // written out: of what `Default::default()` gives, the borrow checker doesn't yet follow the loan through the loop
+    // written out: of what `Tally::default()` gives, the borrow checker doesn't yet follow the loan past a `while let`
     let mut tally = Tally {
         count: 0,
         over: None,
