@@ -4,13 +4,14 @@ ghost use Rattle.building.specs.Entries.{Adds, AddsAll, Closes, Place, SaysIn, e
 
 use crate::equality::same;
 use types::entries::{Root, TypeEntry};
-use types::kinds::{kind_of, rank_of};
+use types::kinds::{KINDS, kind_of, rank_of};
 
-// The rank of the kind of a type; `any` and a union have none, and stand after all twelve.
+// The rank of the kind of a type. What has no kind (`any`, a union; a code unit and an unused entry are no members) stands
+// after all kinds.
 fn rank_of_entry(e: TypeEntry) -> usize
     ensures { result ≡ entry_rank e }
 {
-    kind_of(e).map_or(12, rank_of)
+    kind_of(e).map_or(KINDS, rank_of)
 }
 
 // Whether the type e is one of the members.

@@ -59,6 +59,7 @@ fn add_part(
         entry: e,
         used: parts.len(),
     };
+    // No `map_or`: of slots that are lent to a closure, a proof knows only the length afterwards, even where it is not called.
     match own_part(parts, a, side) {
         Some(part) => add_type(parts, slots, count, part),
         None => Some(count),
