@@ -1,6 +1,5 @@
 -- Closed unions. Assumes nothing.
-use Rattle.std.proofs.Common.{◌≡◌, ℕ, ◌+◌, ◌<◌, ◌≤◌, ◌⊎◌, List, [], ◌∷◌, ◌++◌, length, take, drop, Some, None, Option, sym, refl, ap, ◌∙◌, subst, ⊎_elim, arith}
-use Rattle.std.specs.List.{slice_range}
+use Rattle.std.proofs.Common.{◌≡◌, ℕ, ◌+◌, ◌<◌, ◌≤◌, ◌⊎◌, List, [], ◌∷◌, ◌++◌, length, take, drop, Some, None, Option, sym, refl, subst, ⊎_elim, arith}
 use Rattle.std.proofs.lemmas.List.{take-append-drop}
 use Rattle.std.proofs.lemmas.Grind.{common_steps}
 use Rattle.types.specs.declared.entries.TypeEntry.{TypeEntry}
@@ -17,7 +16,7 @@ use Rattle.building.specs.Entries.{Open, OpenIn, HasNoRoom, AddsAll, Flat, flat_
 use Rattle.building.specs.Made.{Kept, UnionMade, MakesUnion, Hold, hold_none, hold_more}
 use Rattle.building.proofs.OneUnion.{brings_one, any_no_kind}
 use Rattle.building.proofs.InOneForm.{front_or_end, the_only, flat_of, flat_brings, some_arrive, union_in_form}
-use Rattle.building.proofs.OneMore.{in_front, at_end, front}
+use Rattle.building.proofs.OneMore.{in_front, at_end}
 use Rattle.building.proofs.Held.{hold_count, hold_run, begins, begun, after_parts}
 use Rattle.building.proofs.AllMembers.{then_none}
 use Rattle.building.proofs.Filled.{filled_none, run_filled}
@@ -127,12 +126,8 @@ pub kept_below : {types : List TypeEntry} {used : ℕ} (ps es fs : List TypeEntr
 kept_below ps es fs whole at j lt = grind (arith, common_steps)
 
 -- the members stand first of the slots gs
-pub closed_in : (ps gs : List TypeEntry) (m : ℕ) {hs : List TypeEntry} (r : Root) → hs ≡ slice_range gs 0 m → Closes ps hs r → {ts xs : Types} → AllInForm ts → Brings ts xs → ((t : Ty) × In t xs) → Open ps (take m gs) xs → UnionMade (ps ++ gs) (length ps) ts r
-closed_in ps gs m {hs} r part close {ts} {xs} forms b some o =
-    let is = part ∙ front gs m in
-    let u = close ts xs (drop m gs) forms b some (subst (λ z. Open ps z xs) (sym is) o) in
-    let all : hs ++ drop m gs ≡ gs = ap (λ z. z ++ drop m gs) is ∙ take-append-drop m gs in
-    subst (λ z. UnionMade (ps ++ z) (length ps) ts r) all u
+pub closed_in : (ps gs : List TypeEntry) (m : ℕ) (r : Root) → Closes ps (take m gs) r → {ts xs : Types} → AllInForm ts → Brings ts xs → ((t : Ty) × In t xs) → Open ps (take m gs) xs → UnionMade (ps ++ gs) (length ps) ts r
+closed_in ps gs m r close {ts} {xs} forms b some o = subst (λ z. UnionMade (ps ++ z) (length ps) ts r) (take-append-drop m gs) (close ts xs (drop m gs) forms b some o)
 
 -- of a table that is the parts ps and the slots es; these become fs, and then gs
 module _ {types : List TypeEntry} {used : ℕ} (ps es : List TypeEntry) (a b : TypeEntry) (whole : types ≡ ps ++ es) (at : length ps ≡ used) (not_a : a ≡ Any → ⊥) (not-b : b ≡ Any → ⊥) where
@@ -158,14 +153,10 @@ module _ {types : List TypeEntry} {used : ℕ} (ps es : List TypeEntry) (a b : T
       both_opened : {s t : Ty} {xs ys : Types} → Is ps (length ps) a s → Is ps (length ps) b t → Flat s xs → Flat t ys → OpenIn ps gs m (xs then ys)
       both_opened ha hb f g = c _ _ _ not-b hb g (d _ no_types _ not_a ha f (empty ps es))
 
-      -- the members fit in their slots
-      pub no_more : (hs : List TypeEntry) (r : Option Root) → length gs < m → MakesUnion types hs used a b r
-      no_more hs r more s t ha hb f g = let le = (both_opened (below ha) (below hb) (flat_of f).1 (flat_of g).1).0 in absurd (omega arith)
-
-      pub both : {hs : List TypeEntry} (r : Root) → hs ≡ slice_range gs 0 m → Closes ps hs r → MakesUnion types (ps ++ gs) used a b (Some r)
-      both r part close s t ha hb f g =
+      pub both : (r : Root) → Closes ps (take m gs) r → MakesUnion types (ps ++ gs) used a b (Some r)
+      both r close s t ha hb f g =
           let x = flat_of f in
           let y = flat_of g in
           let u = some_arrive x.1 in
           subst (λ k. UnionMade (ps ++ gs) k (s and t and no_types) r) at
-          (closed_in ps gs m r part close (form_more f (form_more g form_none)) (two_bring x.1 y.1) (u.0, in_front y.0 u.1) (both_opened (below ha) (below hb) x.1 y.1).1)
+          (closed_in ps gs m r close (form_more f (form_more g form_none)) (two_bring x.1 y.1) (u.0, in_front y.0 u.1) (both_opened (below ha) (below hb) x.1 y.1).1)

@@ -1,6 +1,6 @@
 -- One more member in an open union. Assumes nothing.
 use Rattle.std.proofs.Common.{◌≡◌, ℕ, zero, suc, ◌+◌, ◌-◌, ◌<◌, ◌≤◌, true, false, ◌⊎◌, List, [], ◌∷◌, ◌++◌, length, take, drop, set, Some, None, sym, refl, ap, ap₂, ◌∙◌, subst, inl, inr, ⊎_elim, arith, eq-eqb}
-use Rattle.std.specs.List.{copy_within, slice_range}
+use Rattle.std.specs.List.{copy_within}
 use Rattle.std.proofs.Math.Seq.{take-append-add, take-append_seam}
 use Rattle.std.proofs.lemmas.List.{append_assoc, drop-take}
 use Rattle.std.proofs.lemmas.Grind.{common_steps}
@@ -183,13 +183,10 @@ put_in es n p e le lt =
     let pasted : copy_within es p n (p + 1) ≡ take (suc p) es ++ (m ++ d) = append_assoc (take (p + 1) es) m d ∙ ap (λ k. take k es ++ (m ++ d)) next in
     ap (λ z. take (n + 1) (set z p e)) pasted ∙ ap (take (n + 1)) (set_seam es (m ++ d) p e (omega arith)) ∙ take_front (take p es) m d e n (omega arith) ∙ ap₂ (λ x y. x ++ e ∷ y) low high
 
-pub front : (es : List TypeEntry) (n : ℕ) → slice_range es 0 n ≡ take n es
-front es n = let e : n - 0 ≡ n = omega arith in ap (λ k. take k es) e
-
 -- the three ways out
-pub member_already : (ps es : List TypeEntry) {hs : List TypeEntry} (n : ℕ) {e : TypeEntry} → hs ≡ slice_range es 0 n → SaysIn ps hs e true → Adds ps es es n e (Some n)
+pub member_already : (ps es : List TypeEntry) {hs : List TypeEntry} (n : ℕ) {e : TypeEntry} → hs ≡ take n es → SaysIn ps hs e true → Adds ps es es n e (Some n)
 member_already ps es n {e} is d t k xs h tk (low, o) =
-    let i = subst (λ z. SaysIn ps z e true) (is ∙ front es n) d t o.members h o.stored in
+    let i = subst (λ z. SaysIn ps z e true) is d t o.members h o.stored in
     (low, record { members = o.members; stored = o.stored; are_members = again (i.0 refl) o.are_members; of_kinds = o.of_kinds })
 
 placed : {ps hs : List TypeEntry} (p r : ℕ) {xs : Types} (t : Ty) (k : Kind) → r ≡ rank k → (o : Open ps hs xs) → Place hs r p → (ns : Types) × Put t k p o.members ns
@@ -199,10 +196,7 @@ placed p r t k e o pl =
 new_member : {ps hs : List TypeEntry} {e : TypeEntry} {t : Ty} {ms : Types} → SaysIn ps hs e false → Is ps (length ps) e t → Hold ps (length ps) hs ms → In t ms → ⊥
 new_member d h s i = both_ways false refl ((d _ _ h s).1 i)
 
-module _ (ps es : List TypeEntry) {hs : List TypeEntry} (n p r : ℕ) {e : TypeEntry} (part : hs ≡ slice_range es 0 n) (d : SaysIn ps hs e false) (re : r ≡ entry_rank e) (pl : Place hs r p) where
-  is : hs ≡ take n es
-  is = part ∙ front es n
-
+module _ (ps es : List TypeEntry) {hs : List TypeEntry} (n p r : ℕ) {e : TypeEntry} (is : hs ≡ take n es) (d : SaysIn ps hs e false) (re : r ≡ entry_rank e) (pl : Place hs r p) where
   -- the members with the new one
   record With (t : Ty) (xs : Types) : Type 0 where
     after : Types
@@ -222,7 +216,7 @@ module _ (ps es : List TypeEntry) {hs : List TypeEntry} (n p r : ℕ) {e : TypeE
         kinds = λ u i. ⊎_elim (λ g. (k, subst (λ x. OfKind x k) (sym g) tk)) (λ j. o.of_kinds u j) (put_only q.1 i);
       }
 
-  pub no_room : n ≡ length es → Adds ps es es n e None
+  pub no_room : length es ≤ n → Adds ps es es n e None
   no_room full t k xs h tk (low, o) ms m =
       let w = with_one h tk (subst (λ z. Open ps z xs) (sym is) o) in
       let all : length hs ≡ n = grind (arith, common_steps) in

@@ -27,7 +27,7 @@ use Rattle.building.specs.Made.{Hold, PartHeld, GivesPart, UnionMade, PartAnswer
 use Rattle.building.proofs.OneUnion.{brings_one, own_one, own_parts_one, no_own, any_no_kind, union_no_kind}
 use Rattle.building.proofs.InOneForm.{front_or_end, flat_of, flat_brings, union_kinds, first_form, other_forms, members_forms}
 use Rattle.building.proofs.Same.{run_from}
-use Rattle.building.proofs.OneMore.{in_front, at_end, front}
+use Rattle.building.proofs.OneMore.{in_front, at_end}
 use Rattle.building.proofs.Held.{next_held, none_after, run_held, hold_count, begun}
 use Rattle.building.proofs.AllMembers.{then_assoc, then_none}
 use Rattle.building.proofs.Filled.{filled_none}
@@ -433,37 +433,32 @@ module _ (es : List TypeEntry) (side : Side) {used first size from end : ℕ} {e
         open_parts : {t : Ty} (q : PartsOf es used first size side t) → OpenIn ps fs n q.xs
         open_parts q = subst (AddsParts ps fs hs side) some a (q.head and q.tail) q.ps q.xs (members_held q) q.members_form q.own q.brings (no_any q)
 
-        -- the members fit in their slots
-        pub none_beyond : (gs : List TypeEntry) (r : Result (Option Root) NoRoom) → length fs < n → MakesPart es gs used e side r
-        none_beyond gs r more low t h form = let o = open_parts (parts_of side (known is h) form) in let le = o.0 in absurd (omega arith)
+        members_count : {xs : Types} → n ≤ length fs → (o : Open ps (take n fs) xs) → count o.members ≡ n
+        members_count le o = let long : length (take n fs) ≡ n = grind (arith, common_steps) in hold_count o.stored ∙ long
 
-        module _ (ms : List TypeEntry) (first-of : ms ≡ slice_range fs 0 n) where
-          members_count : {xs : Types} (o : Open ps (take n fs) xs) → count o.members ≡ length ms
-          members_count o = hold_count o.stored ∙ ap length (sym (first-of ∙ front fs n))
+        pub union_lacking : (gs : List TypeEntry) → n ≡ 0 → MakesPart es gs used e side (Ok None)
+        union_lacking gs zero_is low t h form p o =
+            let q = parts_of side (known is h) form in
+            let u = union_part q.own (subst (λ x. PartOf side x p) q.is_it o) in
+            let i = united_some q.brings u in
+            let m = open_parts q in
+            no_members m.1.members (members_count m.0 m.1) (m.1.are_members.all i.0 i.1)
+          where
+            no_members : {u : Ty} (ts : Types) → count ts ≡ n → In u ts → ⊥
+            no_members no_types c i = elim i [ ]
+            no_members (m and ts) c i = omega arith
 
-          pub union_lacking : (gs : List TypeEntry) → length ms ≡ 0 → MakesPart es gs used e side (Ok None)
-          union_lacking gs zero_is low t h form p o =
-              let q = parts_of side (known is h) form in
-              let u = union_part q.own (subst (λ x. PartOf side x p) q.is_it o) in
-              let i = united_some q.brings u in
-              let m = (open_parts q).1 in
-              no_members m.members (members_count m) (m.are_members.all i.0 i.1)
-            where
-              no_members : {u : Ty} (ts : Types) → count ts ≡ length ms → In u ts → ⊥
-              no_members no_types c i = elim i [ ]
-              no_members (m and ts) c i = omega arith
-
-          pub union_part_made : (r : Root) → (length ms ≡ 0 → ⊥) → Closes ps ms r → MakesPart es (ps ++ fs) used e side (Ok (Some r))
-          union_part_made r some close low t h form =
-              let q = parts_of side (known is h) form in
-              let m = (open_parts q).1 in
-              let i = a_member m.members (members_count m) in
-              let u = subst (λ k. UnionMade (ps ++ fs) k q.ps r) split (closed_in ps fs n r first-of close (own_forms q.own q.members_form) q.brings (i.0, m.are_members.only i.0 i.1) m) in
-              record { made = u.made; is_part = is_union_part {p = u.made} q u.is_union; in_form = u.in_form; holds = u.holds; more = u.more; within = u.within; light = u.light; filled = u.filled }
-            where
-              a_member : (ts : Types) → count ts ≡ length ms → (u : Ty) × In u ts
-              a_member no_types c = absurd (some (sym c))
-              a_member (m and ts) c = (m, in_first)
+        pub union_part_made : (r : Root) → (n ≡ 0 → ⊥) → Closes ps (take n fs) r → MakesPart es (ps ++ fs) used e side (Ok (Some r))
+        union_part_made r some close low t h form =
+            let q = parts_of side (known is h) form in
+            let m = open_parts q in
+            let i = a_member m.1.members (members_count m.0 m.1) in
+            let u = subst (λ k. UnionMade (ps ++ fs) k q.ps r) split (closed_in ps fs n r close (own_forms q.own q.members_form) q.brings (i.0, m.1.are_members.only i.0 i.1) m.1) in
+            record { made = u.made; is_part = is_union_part {p = u.made} q u.is_union; in_form = u.in_form; holds = u.holds; more = u.more; within = u.within; light = u.light; filled = u.filled }
+          where
+            a_member : (ts : Types) → count ts ≡ n → (u : Ty) × In u ts
+            a_member no_types c = absurd (some (sym c))
+            a_member (m and ts) c = (m, in_first)
 
 -- whether a type has a part
 kind_part : {s : Side} {t p : Ty} {k : Kind} → OfKind t k → PartOf s t p → OwnPart s t p

@@ -9,6 +9,7 @@ use Rattle.types.specs.Kinds.{OfKind, entry_kind, rank}
 use Rattle.building.specs.Unions.{◌then◌, Brings, In, Members}
 use Rattle.building.specs.Forms.{InForm, AllInForm}
 use Rattle.building.specs.declared.parts.Side.{Side}
+use Rattle.building.specs.declared.members.OpenUnion.{OpenUnion}
 use Rattle.building.specs.HeadsAndTails.{OwnPart, OwnParts}
 use Rattle.types.specs.declared.entries.Root.{Root}
 use Rattle.building.specs.Made.{UnionMade, SaysSameType, Hold}
@@ -86,6 +87,23 @@ AddsAll ps es fs n e r =
     (t : Ty) (xs ys : Types) → (e ≢ Any) → Is ps (length ps) e t → Flat t ys → OpenIn ps es n xs
     → Opened ps fs (xs then ys) r
 
+-- how many members there are after an answer, if it is not that there is no room
+abbrev pub counted : Option (Unit {0}) → ℕ → Option ℕ
+counted (Some done) n = Some n
+counted None n = None
+
+-- v has the slots that are lent to the open union u, and its parts
+abbrev pub SameTable : OpenUnion → OpenUnion → Type 0
+SameTable u v = (v.slots.ghost_name ≡ u.slots.ghost_name) × (v.parts.now ≡ u.parts.now)
+
+-- the open union u becomes v with one more type, or there is no room
+abbrev pub AddsTo : OpenUnion → TypeEntry → OpenUnion → Option (Unit {0}) → Type 0
+AddsTo u e v r = Adds u.parts.now u.slots.now v.slots.now u.count e (counted r v.count)
+
+-- the same of all that the type e, which is not `any`, brings
+abbrev pub AddsAllTo : OpenUnion → TypeEntry → OpenUnion → Option (Unit {0}) → Type 0
+AddsAllTo u e v r = AddsAll u.parts.now u.slots.now v.slots.now u.count e (counted r v.count)
+
 -- the open union of the entries hs, which stand right after ps in a table, closed, is m
 abbrev pub Closes : List TypeEntry → List TypeEntry → Root → Type 0
 Closes ps hs m = (ts xs : Types) (rest : List TypeEntry) → AllInForm ts → Brings ts xs → ((t : Ty) × In t xs) → Open ps hs xs → UnionMade (ps ++ (hs ++ rest)) (length ps) ts m
@@ -109,6 +127,14 @@ abbrev pub AddsParts : List TypeEntry → List TypeEntry → List TypeEntry → 
 AddsParts ps fs hs side r =
     (ts qs xs : Types) → Hold ps (length ps) hs ts → AllInForm ts → OwnParts side ts qs → Brings qs xs → (In any xs → ⊥)
     → Opened ps fs xs r
+
+-- the open union u becomes v with all that the part of the type e brings, or there is no room
+abbrev pub AddsPartTo : OpenUnion → TypeEntry → Side → OpenUnion → Option (Unit {0}) → Type 0
+AddsPartTo u e side v r = AddsPart u.parts.now u.slots.now v.slots.now u.count e side (counted r v.count)
+
+-- the empty open union u becomes v with all that the parts of the entries hs bring, or there is no room
+abbrev pub AddsPartsTo : OpenUnion → List TypeEntry → Side → OpenUnion → Option (Unit {0}) → Type 0
+AddsPartsTo u hs side v r = u.count ≡ 0 → AddsParts u.parts.now v.slots.now hs side (counted r v.count)
 
 -- the entries xs stand in fs from used on, and r is where they end, or they do not fit in
 abbrev pub Puts : List TypeEntry → ℕ → List TypeEntry → Option ℕ → Type 0

@@ -1,16 +1,17 @@
-// Open unions: their members are the first `count` of some slots, and the parts of the members stand in `parts`.
-ghost use Rattle.std.specs.Prelude.{◌≡◌};
-ghost use Rattle.building.specs.Entries.{Adds, AddsAll, Closes, Place, SaysIn, entry_rank};
+// Open unions.
+ghost use Rattle.std.specs.Prelude.{◌≡◌, take};
+ghost use Rattle.building.specs.Entries.{AddsAllTo, AddsTo, Closes, Place, SameTable, SaysIn, entry_rank};
 
 use crate::equality::same;
 use types::entries::{Root, TypeEntry};
-use types::kinds::{kind_of, rank_of};
+use types::kinds::{KINDS, kind_of, rank_of};
 
-// The rank of the kind of a type; `any` and a union have none, and stand after all twelve.
+// The rank of the kind of a type. What has no kind (`any`, a union; a code unit and an unused entry are no members) stands
+// after all kinds.
 fn rank_of_entry(e: TypeEntry) -> usize
     ensures { result ≡ entry_rank e }
 {
-    kind_of(e).map_or(12, rank_of)
+    kind_of(e).map_or(KINDS, rank_of)
 }
 
 // Whether the type e is one of the members.
@@ -34,65 +35,80 @@ fn place_of(members: &[TypeEntry], rank: usize) -> usize
         .unwrap_or(members.len())
 }
 
-// Adds the type e to an open union, unless it is one of the members, and answers how many there are then.
-// None where there is no room for it.
-fn add_member(
-    parts: &[TypeEntry],
-    slots: &mut [TypeEntry],
-    count: usize,
-    e: TypeEntry,
-) -> Option<usize>
-    ensures { Adds parts.now slots.old slots.new count e result }
-{
-    let members = slots.get(..count)?;
-    if has_member(parts, members, e) {
-        return Some(count);
-    }
-    let place = place_of(members, rank_of_entry(e));
-    if count == slots.len() {
-        return None;
-    }
-    slots.copy_within(place..count, place + 1);
-    // By an index: `get_mut` says nothing of what the slots end as.
-    slots[place] = e;
-    Some(count + 1)
+// A union to which types are added: its members are the first `count` slots, and their parts stand in `parts`. The slots are
+// lent. By the clauses `lent` of the methods they are still the caller's, who finds there what they wrote.
+#[derive(Drop)]
+pub struct OpenUnion<'p, 's> {
+    pub parts: &'p [TypeEntry],
+    pub slots: &'s mut [TypeEntry],
+    pub count: usize,
 }
 
-// Adds the type e, or its members where it is a union, to an open union.
-pub fn add_type(
-    parts: &[TypeEntry],
-    slots: &mut [TypeEntry],
-    count: usize,
-    e: TypeEntry,
-) -> Option<usize>
-    ensures { AddsAll parts.now slots.old slots.new count e result }
-{
-    let TypeEntry::Union { first, count: size } = e else {
-        return add_member(parts, slots, count, e);
-    };
-    let end = first.checked_add(size)?;
-    let mut total = count;
-    for member in parts.get(first..end)? {
-        total = add_member(parts, slots, total, *member)?;
+impl<'p, 's> OpenUnion<'p, 's> {
+    // The members. `min` is for the proof alone: `count` is never over the length, and to say so would take a `requires` in each
+    // method.
+    fn members(&self) -> &[TypeEntry]
+        ensures { result.now ≡ take self.now.count self.now.slots.now }
+    {
+        let slots = &*self.slots;
+        &slots[..self.count.min(slots.len())]
     }
-    Some(total)
-}
 
-// Closes an open union: its one member, or a union of several.
-#[tactic(auto, using(crate::proofs::Closed::closes_more))]
-pub fn close(parts: &[TypeEntry], members: &[TypeEntry]) -> Root
-    ensures { Closes parts.now members.now result }
-{
-    let used = parts.len();
-    let count = members.len();
-    match members {
-        [member] => Root {
-            entry: *member,
-            used,
-        },
-        _ => Root {
-            entry: TypeEntry::Union { first: used, count },
-            used: used + count,
-        },
+    // Adds the type e, unless it is one of the members. None where there is no room for it.
+    fn add_member(&mut self, e: TypeEntry) -> Option<()>
+        ensures lent { SameTable self.old self.new }
+        ensures added { AddsTo self.old e self.new result }
+    {
+        let count = self.count;
+        let members = self.members();
+        if has_member(self.parts, members, e) {
+            return Some(());
+        }
+        let place = place_of(members, rank_of_entry(e));
+        if count >= self.slots.len() {
+            return None;
+        }
+        self.slots.copy_within(place..count, place + 1);
+        // By an index: `get_mut` says nothing of what the slots end as.
+        self.slots[place] = e;
+        self.count = count + 1;
+        Some(())
+    }
+
+    // Adds the type e, or its members where it is a union. None where there is no room.
+    pub fn add(&mut self, e: TypeEntry) -> Option<()>
+        ensures lent { SameTable self.old self.new }
+        ensures added { AddsAllTo self.old e self.new result }
+    {
+        let TypeEntry::Union { first, count } = e else {
+            return self.add_member(e);
+        };
+        let end = first.checked_add(count)?;
+        let parts = self.parts;
+        for member in parts.get(first..end)? {
+            self.add_member(*member)?;
+        }
+        Some(())
+    }
+
+    // Closes it: its one member, or a union of several.
+    #[tactic(auto, using(crate::proofs::Closed::closes_more))]
+    pub fn close(&self) -> Root
+        ensures { Closes self.now.parts.now (take self.now.count self.now.slots.now) result }
+    {
+        let used = self.parts.len();
+        match self.members() {
+            [member] => Root {
+                entry: *member,
+                used,
+            },
+            members => Root {
+                entry: TypeEntry::Union {
+                    first: used,
+                    count: members.len(),
+                },
+                used: used + members.len(),
+            },
+        }
     }
 }

@@ -1,8 +1,8 @@
 // The head part and the tail part of a type.
-ghost use Rattle.building.specs.Entries.{AddsPart, AddsParts, SaysAnyPart, SaysPartAny};
+ghost use Rattle.building.specs.Entries.{AddsPartTo, AddsPartsTo, SameTable, SaysAnyPart, SaysPartAny};
 ghost use Rattle.building.specs.Made.{GivesPart, Kept, MakesPart};
 
-use crate::members::{add_type, close};
+use crate::members::OpenUnion;
 use std::ops::Range;
 use types::entries::{Root, TypeEntry};
 
@@ -45,40 +45,34 @@ fn has_any_part(types: &[TypeEntry], mut run: Range<usize>, side: Side) -> bool
     run.any(|k| part_is_any(types, Root::at(types, k), side))
 }
 
-// Adds the part on a side of the type e, if it has one, to an open union.
-fn add_part(
-    parts: &[TypeEntry],
-    slots: &mut [TypeEntry],
-    count: usize,
-    e: TypeEntry,
-    side: Side,
-) -> Option<usize>
-    ensures { AddsPart parts.now slots.old slots.new count e side result }
-{
-    let a = Root {
-        entry: e,
-        used: parts.len(),
-    };
-    match own_part(parts, a, side) {
-        Some(part) => add_type(parts, slots, count, part),
-        None => Some(count),
+impl<'p, 's> OpenUnion<'p, 's> {
+    // Adds the part on a side of the type e, if it has one. None where there is no room.
+    fn add_part(&mut self, e: TypeEntry, side: Side) -> Option<()>
+        ensures lent { SameTable self.old self.new }
+        ensures added { AddsPartTo self.old e side self.new result }
+    {
+        let parts = self.parts;
+        let a = Root {
+            entry: e,
+            used: parts.len(),
+        };
+        // No `map_or`: of what a closure has borrowed to change, a proof knows nothing afterwards, even where it is not called.
+        match own_part(parts, a, side) {
+            Some(part) => self.add(part),
+            None => Some(()),
+        }
     }
-}
 
-// Opens a union and adds the parts of some types.
-fn add_parts(
-    parts: &[TypeEntry],
-    slots: &mut [TypeEntry],
-    members: &[TypeEntry],
-    side: Side,
-) -> Option<usize>
-    ensures { AddsParts parts.now slots.new members.now side result }
-{
-    let mut count = 0;
-    for member in members {
-        count = add_part(parts, slots, count, *member, side)?;
+    // Adds the parts of some types to an empty one. None where there is no room.
+    fn add_parts(&mut self, members: &[TypeEntry], side: Side) -> Option<()>
+        ensures lent { SameTable self.old self.new }
+        ensures added { AddsPartsTo self.old members.now side self.new result }
+    {
+        for member in members {
+            self.add_part(*member, side)?;
+        }
+        Some(())
     }
-    Some(count)
 }
 
 // The part on a side of a type: of a union, the union of the parts of its members. None where it has no such part.
@@ -106,10 +100,14 @@ pub fn part_of(types: &mut [TypeEntry], a: Root, side: Side) -> Result<Option<Ro
     }
     let (parts, slots) = types.split_at_mut(used);
     let parts = &*parts;
-    let count = add_parts(parts, slots, &parts[start..end], side).ok_or(NoRoom)?;
-    let members = slots.get(..count).ok_or(NoRoom)?;
-    if members.is_empty() {
+    let mut open = OpenUnion {
+        parts,
+        slots,
+        count: 0,
+    };
+    open.add_parts(&parts[start..end], side).ok_or(NoRoom)?;
+    if open.count == 0 {
         return Ok(None);
     }
-    Ok(Some(close(parts, members)))
+    Ok(Some(open.close()))
 }

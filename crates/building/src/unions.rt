@@ -1,7 +1,7 @@
 // Unions made in the type table.
 ghost use Rattle.building.specs.Made.{Kept, MakesUnion};
 
-use crate::members::{add_type, close};
+use crate::members::OpenUnion;
 use types::entries::{Root, TypeEntry};
 
 // The union of two types whose parts stand below `used`. None where its members do not fit in from `used` on.
@@ -25,7 +25,12 @@ pub fn union_of_two(
         });
     }
     let (parts, slots) = types.split_at_mut(used);
-    let some = add_type(parts, slots, 0, a)?;
-    let count = add_type(parts, slots, some, b)?;
-    Some(close(parts, slots.get(..count)?))
+    let mut open = OpenUnion {
+        parts,
+        slots,
+        count: 0,
+    };
+    open.add(a)?;
+    open.add(b)?;
+    Some(open.close())
 }
