@@ -35,8 +35,8 @@ fn place_of(members: &[TypeEntry], rank: usize) -> usize
         .unwrap_or(members.len())
 }
 
-// A union to which types are added: its members are the first `count` slots, and their parts stand in `parts`. The slots are
-// lent. By the clauses `lent` of the methods they are still the caller's, who finds there what they wrote.
+// A union to which types are added: its members are the first `count` slots, and their parts stand in `parts`. Of a slice
+// that is lent in a struct a proof knows only what the clauses tell, so each method says in `lent` that it is the same one.
 #[derive(Drop)]
 pub struct OpenUnion<'p, 's> {
     pub parts: &'p [TypeEntry],
@@ -69,7 +69,7 @@ impl<'p, 's> OpenUnion<'p, 's> {
             return None;
         }
         self.slots.copy_within(place..count, place + 1);
-        // By an index: `get_mut` says nothing of what the slots end as.
+        // By index: of what is written through `get_mut`, a proof would know the length alone.
         self.slots[place] = e;
         self.count = count + 1;
         Some(())

@@ -14,7 +14,7 @@ pub fn put(types: &mut [TypeEntry], used: usize, entries: &[TypeEntry]) -> Optio
     if end > types.len() {
         return None;
     }
-    // By indexes: `get_mut` says nothing of what the table ends as.
+    // By indexes: of what is written through `get_mut`, a proof would know the length alone.
     types[used..end].copy_from_slice(entries);
     Some(end)
 }
