@@ -2,8 +2,8 @@
 ghost use Rattle.registers.specs.Meaning.{nothing};
 ghost use Rattle.registers.specs.Soundness.{nothing_sound};
 
-use crate::told::Told;
 use crate::register::{ROOM, Register};
+use crate::told::Told;
 use types::entries::TypeEntry;
 
 #[derive(Clone, Copy)]

@@ -2,10 +2,10 @@
 ghost use Rattle.registers.specs.Library.{library};
 ghost use Rattle.registers.specs.Soundness.{library_sound};
 
-use crate::told::Told;
 use crate::register::{ROOM, Register};
 use crate::standing::told;
 use crate::table::standing_of;
+use crate::told::Told;
 use types::entries::TypeEntry;
 
 #[derive(Clone, Copy)]

@@ -5,8 +5,8 @@ ghost use Rattle.registers.specs.Meaning.{Fit};
 ghost use Rattle.registers.specs.Standings.{basic_entry, basic_type, basic_types, binding_of};
 ghost use Rattle.registers.specs.Telling.{MadeIn, Tells};
 
-use crate::told::{Scheme, Told};
 use crate::register::ROOM;
+use crate::told::{Scheme, Told};
 use types::entries::{Root, TypeEntry};
 
 // The types without parts that the library has.

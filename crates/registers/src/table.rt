@@ -4,10 +4,10 @@ ghost use Rattle.registers.specs.Library.{library};
 ghost use Rattle.registers.specs.Meaning.{look_up};
 ghost use Rattle.registers.specs.Standings.{stands, table_lines};
 
-use crate::told::Scheme::{Head, List, Pair, Tail};
 use crate::standing::Basic::{Any, Boolean, Number, String, Undefined};
 use crate::standing::Standing;
 use crate::standing::Standing::{Function, Plain, Scheme};
+use crate::told::Scheme::{Head, List, Pair, Tail};
 
 // Each name with what it is bound to.
 static TABLE: [(&[u8], Standing); 79] = [

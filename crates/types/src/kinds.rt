@@ -111,10 +111,8 @@ pub fn kind_of(e: TypeEntry) -> Option<Kind>
     ensures { result ≡ entry_kind e }
 {
     match e {
-        TypeEntry::Unused
-        | TypeEntry::Any
-        | TypeEntry::CodeUnit(_)
-        | TypeEntry::Union { .. } => None,
+        TypeEntry::Unused | TypeEntry::Any | TypeEntry::CodeUnit(_) | TypeEntry::Union { .. } =>
+            None,
         TypeEntry::Number => Some(Kind::Number),
         TypeEntry::NumberLiteral { .. } => Some(Kind::NumberLiteral),
         TypeEntry::String => Some(Kind::String),
