@@ -45,8 +45,8 @@ pub struct OpenUnion<'p, 's> {
 }
 
 impl<'p, 's> OpenUnion<'p, 's> {
-    // The members. `min` is for the proof alone: `count` is never over the length, and to say so would take a `requires` in each
-    // method.
+    // The members. `min` is for the proof alone: the count is never over the length, but to say so would take a `requires` in
+    // each method.
     fn members(&self) -> &[TypeEntry]
         ensures { result.now ≡ take self.now.count self.now.slots.now }
     {

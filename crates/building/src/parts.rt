@@ -56,7 +56,7 @@ impl<'p, 's> OpenUnion<'p, 's> {
             entry: e,
             used: parts.len(),
         };
-        // No `map_or`: of what a closure has borrowed to change, a proof knows nothing afterwards, even where it is not called.
+        // No `map_or`: of what a closure has borrowed to change, a proof knows nothing afterwards, even if it is not called.
         match own_part(parts, a, side) {
             Some(part) => self.add(part),
             None => Some(()),
