@@ -17,7 +17,8 @@ fn exponent_of(power: u16) -> i16
     power as i16 - BIAS as i16
 }
 
-// The type of the number that a text writes. None where it writes none.
+// The type of the number that a text writes. None where it writes none. No From for a decimal: both types are of other
+// crates.
 pub fn number_of(text: &[u8]) -> Option<TypeEntry>
     ensures { GivesNumber text.now result }
 {

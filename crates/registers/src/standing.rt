@@ -41,7 +41,8 @@ impl From<Basic> for TypeEntry {
     }
 }
 
-// A function type of types without parts: its parameters are written into `room`, and its result after them.
+// A function type of types without parts: its parameters are written into `room`, and its result after them. Not by the one
+// of `building`, which takes entries.
 fn told_function(parameters: &[Basic], last: Basic, room: &mut [TypeEntry; ROOM]) -> Root
     requires { length parameters.now < ROOM }
     ensures { MadeIn room.new (function (basic_types parameters.now) (basic_type last)) result }
