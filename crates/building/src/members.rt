@@ -35,8 +35,9 @@ fn place_of(members: &[TypeEntry], rank: usize) -> usize
         .unwrap_or(members.len())
 }
 
-// A union to which types are added: its members are the first `count` slots, and their parts stand in `parts`. Of a slice
-// that is lent in a struct a proof knows only what the clauses tell, so each method says in `lent` that it is the same one.
+// A union to which types are added, in slots that the type table lends: so its members are the first `count` of them, and no
+// `Vec`; their parts stand in `parts`. Of a slice that is lent in a struct a proof knows only what the clauses tell, so each
+// method says in `lent` that both are the same ones.
 #[derive(Drop)]
 pub struct OpenUnion<'p, 's> {
     pub parts: &'p [TypeEntry],

@@ -35,6 +35,7 @@ fn bytes_of(heap: Global, text: &str) -> anyhow::Result<Option<Vec<u8>>> {
     match hex::decode(heap, digits) {
         Ok(bytes) => Ok(Some(bytes)),
         Err(FromHexError::OutOfMemory) => bail!("memory allocation failed"),
+        // the text is of another form, and that is no error here
         Err(_) => Ok(None),
     }
 }

@@ -2,7 +2,7 @@
 ghost use Rattle.std.specs.Prelude.{◌≡◌};
 ghost use Rattle.checker.specs.Findings.{AllBlank, number_of};
 
-// The discriminants are the numbers by which findings are reported.
+// The discriminants are the numbers by which findings are reported, in C and in what `calls` prints.
 #[derive(Clone, Copy, PartialEq, Eq, Debug)]
 pub enum Kind {
     // no finding: a lent list, of whatever length, has to hold something

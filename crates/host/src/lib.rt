@@ -20,7 +20,7 @@ use registers::empty::Empty;
 use registers::library::Library;
 use types::entries::TypeEntry;
 
-// The answer where `out` has no room for one.
+// The answer where `out` has no room for one: C is given numbers alone.
 const NO_ROOM: u32 = 1;
 
 // How many findings are listed at most. All are counted.
@@ -66,6 +66,7 @@ pub fn sheet_read(sheet: &[u8], out: &mut [u8]) -> u32
         frames: &mut frames,
         types: &mut types,
     };
+    // a match: C is given a number in either case
     match read(sheet, &mut tree, &mut lent) {
         Ok(_) => 0,
         Err(e) => refused(out, e),
@@ -92,6 +93,7 @@ pub fn sheet_check(sheet: &[u8], out: &mut [u8]) -> u32
         types: &mut types,
     };
     let mut findings = [BLANK; FINDINGS];
+    // a match, as in `sheet_read`
     match read_and_check(sheet, &Library, &Empty, &mut tree, &mut lent, &mut findings) {
         Ok(c) => checked(out, &c, &findings),
         Err(e) => refused(out, Refusal::from(e)),
