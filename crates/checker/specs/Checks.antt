@@ -7,7 +7,7 @@ use Rattle.registers.specs.Meaning.{Meaning}
 use Rattle.parser.specs.declared.reading.Read.{Read}
 use Rattle.parser.specs.declared.tree.TreeEntry.{TreeEntry}
 use Rattle.parser.specs.Syntax.{Expr}
-use Rattle.parser.specs.Table.{AllProper}
+use Rattle.parser.specs.Table.{AllProper, Earlier}
 use Rattle.parser.specs.Reading.{Represents, Sizes, Short}
 use Rattle.checker.specs.declared.finding.Finding.{Finding}
 use Rattle.checker.specs.declared.stage.Checked.{Checked}
@@ -33,16 +33,20 @@ pub record CheckedAs (sheet : List ℕ) (Γ : Meaning) (ss : List Expr) (c : Che
   pub derived : c.count ≡ 0 → Derivation sheet Γ ss
   pub clean : Derivation sheet Γ ss → c.count ≡ 0
 
--- why a check is refused: a table under its size; else an entry in use that is not in order; else a load over 8,192
+-- the entries of the tree in use are in order, and so is the reading: its last statement, if there is one, is one of them
+abbrev pub TreeInOrder : ℕ → List TreeEntry → Read → Type 0
+TreeInOrder sheet tree read = AllProper sheet tree read.used × Earlier tree read.used read.last
+
+-- why a check is refused: a table under its size; else an entry in use or a last statement that is not in order; else a load over 8,192
 pub data Refuses (s : Sizes) (sheet : List ℕ) (tree : List TreeEntry) (read : Read) (Γ : Meaning) : Refusal → Type 0 where
   short_table : Short s → Refuses s sheet tree read Γ (record { reason = ShortTable; place = 0 })
-  damaged : (Short s → ⊥) → (AllProper (length sheet) tree read.used → ⊥) → Refuses s sheet tree read Γ (record { reason = Damaged; place = 0 })
-  too_heavy : (Short s → ⊥) → AllProper (length sheet) tree read.used →
+  damaged : (Short s → ⊥) → (TreeInOrder (length sheet) tree read → ⊥) → Refuses s sheet tree read Γ (record { reason = Damaged; place = 0 })
+  too_heavy : (Short s → ⊥) → TreeInOrder (length sheet) tree read →
       ((ss : List Expr) (ns : List Note) → Represents sheet tree read ss → AllTyped sheet Γ ss ns → 8192 < weigh (types ns)) →
       Refuses s sheet tree read Γ (record { reason = HeavySheet; place = 0 })
 
 -- The answer. Where the sheet and the tree are not as the reading left them and no entry is out of order, it is free.
 abbrev pub Checks : Sizes → List ℕ → List TreeEntry → Read → Meaning → Result Checked (Refusal × Read) → List Finding → List TypeEntry → Type 0
 Checks s sheet tree read Γ (Ok c) listed es =
-    (Short s → ⊥) × AllProper (length sheet) tree read.used × ((ss : List Expr) → Represents sheet tree read ss → CheckedAs sheet Γ ss c listed es)
+    (Short s → ⊥) × TreeInOrder (length sheet) tree read × ((ss : List Expr) → Represents sheet tree read ss → CheckedAs sheet Γ ss c listed es)
 Checks s sheet tree read Γ (Err e) listed es = Refuses s sheet tree read Γ e.0 × (e.1 ≡ read) × AllBlank listed

@@ -6,7 +6,7 @@ ghost use Rattle.checker.specs.Walks.{Walks};
 
 use crate::finding::{Finding, blank_out};
 use crate::first::First;
-use crate::proper::proper;
+use crate::proper::tree_in_order;
 use crate::stage::Checked;
 use crate::store::{Store, TooHeavy};
 use crate::walk::{Source, Walk};
@@ -69,7 +69,7 @@ pub fn check<F: Register, S: Register>(
     if tables.is_short(tree.len()) {
         return Err((Reason::ShortTable.at(0), reading));
     }
-    if !proper(sheet.len(), tree, reading.used()) {
+    if !tree_in_order(sheet.len(), tree, reading.used(), reading.last()) {
         return Err((Reason::Damaged.at(0), reading));
     }
     let source = Source {
