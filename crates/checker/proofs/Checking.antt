@@ -48,6 +48,7 @@ checked_as sheet Γ ss c listed es sound written walk =
       count = w.count;
       list = w.list;
       expressions = w.expressions;
+      light = w.light;
       types_held = w.types_held;
       in_order = w.in_order;
       derived = λ z. record { notes = t.0; typed = t.1; all_met = all_met_if_none w.findings (sym w.count ∙ z) };

@@ -1,5 +1,5 @@
 -- What `check` answers. Assumes nothing.
-use Rattle.std.specs.Prelude.{◌≡◌, ℕ, ◌<◌, ◌≤◌, List, length, Ok, Err, Result}
+use Rattle.std.specs.Prelude.{◌≡◌, ℕ, ◌+◌, ◌<◌, ◌≤◌, List, length, Ok, Err, Result}
 use Rattle.lexer.specs.declared.reasons.Reason.TheVariants.{ShortTable, HeavySheet, Damaged}
 use Rattle.lexer.specs.declared.refusal.Refusal.{Refusal}
 use Rattle.types.specs.declared.entries.TypeEntry.{TypeEntry}
@@ -16,8 +16,8 @@ use Rattle.checker.specs.Findings.{Findings, blank, FirstOf, AllBlank, Derivatio
 use Rattle.checker.specs.Orders.{IsInOrder, TypesHeld}
 
 -- The program ss in the scope Γ: it has one typing; c counts its unmet conditions and its expressions, the list has the
--- first findings, the table the types of the expressions by their numbers; and there is no finding exactly where there is a
--- derivation.
+-- first findings, the table the types of the expressions by their numbers, with all their parts among the entries in use,
+-- which are no more than the load counts; and there is no finding exactly where there is a derivation.
 pub record CheckedAs (sheet : List ℕ) (Γ : Meaning) (ss : List Expr) (c : Checked) (listed : List Finding) (es : List TypeEntry) : Type 0 where
   pub notes : List Note
   pub typed : AllTyped sheet Γ ss notes
@@ -28,7 +28,8 @@ pub record CheckedAs (sheet : List ℕ) (Γ : Meaning) (ss : List Expr) (c : Che
   pub count : c.count ≡ length found
   pub list : FirstOf blank listed found
   pub expressions : c.expressions ≡ length (types notes)
-  pub types_held : TypesHeld es (types notes)
+  pub light : c.used + c.expressions ≤ weigh (types notes)
+  pub types_held : TypesHeld es c.used (types notes)
   pub in_order : IsInOrder es c.used c.expressions
   pub derived : c.count ≡ 0 → Derivation sheet Γ ss
   pub clean : Derivation sheet Γ ss → c.count ≡ 0

@@ -52,7 +52,8 @@ fn walk_over<'a, R: Register>(
 }
 
 // Checks a sheet that was read, in the scope of the first register; the second one is asked for what a sheet imports, and
-// no sheet imports anything yet. A refused check gives the reading back, and its findings list is blank.
+// no sheet imports anything yet. A refused check gives the reading back, and its findings list is blank. What the stacks hold
+// after is free, and so is what the type entries that are not in use hold, and after a refusal all of them.
 pub fn check<F: Register, S: Register>(
     reading: Read,
     sheet: &[u8],

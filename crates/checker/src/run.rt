@@ -103,7 +103,7 @@ fn said_of(outcome: &Result<Checked, Refused>) -> Answer
 
 // Makes the calls one after the other, as many as there are places for answers, and says what each answers. Where the last
 // one was checked, it gives that too: the findings list and the type table are then that sheet's. Where the last one was
-// refused, the findings list is blank.
+// refused, the findings list is blank. What the other tables hold after is free.
 pub fn run<F: Register, S: Register>(
     first: &F,
     second: &S,
