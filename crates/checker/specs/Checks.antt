@@ -38,7 +38,8 @@ pub record CheckedAs (sheet : List ℕ) (Γ : Meaning) (ss : List Expr) (c : Che
 abbrev pub TreeInOrder : ℕ → List TreeEntry → Read → Type 0
 TreeInOrder sheet tree read = AllProper sheet tree read.used × Earlier tree read.used read.last
 
--- why a check is refused: a table under its size; else an entry in use or a last statement that is not in order; else a load over 8,192
+-- why a check is refused: a table under its size; else an entry in use, or a last statement, that is not in order; else a
+-- load over 8,192
 pub data Refuses (s : Sizes) (sheet : List ℕ) (tree : List TreeEntry) (read : Read) (Γ : Meaning) : Refusal → Type 0 where
   short_table : Short s → Refuses s sheet tree read Γ (record { reason = ShortTable; place = 0 })
   damaged : (Short s → ⊥) → (TreeInOrder (length sheet) tree read → ⊥) → Refuses s sheet tree read Γ (record { reason = Damaged; place = 0 })
