@@ -10,7 +10,7 @@ use Rattle.lexer.specs.declared.refusal.Refusal.{Refusal}
 use Rattle.parser.specs.declared.reading.Read.{Read}
 use Rattle.parser.specs.declared.tree.TreeEntry.{TreeEntry}
 use Rattle.parser.specs.Syntax.{Expr, sizes}
-use Rattle.parser.specs.Table.{AllProper, Listed}
+use Rattle.parser.specs.Table.{Listed}
 use Rattle.parser.specs.Reading.{Written, Sizes, Short, short_operators, short_frames, short_types}
 use Rattle.checker.specs.declared.finding.Finding.{Finding}
 use Rattle.checker.specs.declared.stage.Checked.{Checked}
@@ -18,7 +18,7 @@ use Rattle.checker.specs.Conditions.{AllMet}
 use Rattle.checker.specs.Rules.{Note, AllTyped, conditions}
 use Rattle.checker.specs.declared.store.TooHeavy.{TooHeavy}
 use Rattle.checker.specs.Findings.{AllBlank}
-use Rattle.checker.specs.Checks.{CheckedAs, too_heavy, Checks}
+use Rattle.checker.specs.Checks.{CheckedAs, TreeInOrder, too_heavy, Checks}
 use Rattle.checker.specs.Walks.{WalkedAs, WalkedOrHeavy}
 use Rattle.checker.proofs.Typings.{one_typing_of_all}
 use Rattle.checker.proofs.Typable.{typing_exists_law}
@@ -48,6 +48,7 @@ checked_as sheet Γ ss c listed es sound written walk =
       count = w.count;
       list = w.list;
       expressions = w.expressions;
+      light = w.light;
       types_held = w.types_held;
       in_order = w.in_order;
       derived = λ z. record { notes = t.0; typed = t.1; all_met = all_met_if_none w.findings (sym w.count ∙ z) };
@@ -56,7 +57,7 @@ checked_as sheet Γ ss c listed es sound written walk =
 
 -- what a check of such a table answers, by what its walk over the program came to, and by how a load that is too high is told
 module _ (s : Sizes) (sheet : List ℕ) (tree : List TreeEntry) (read : Read) (Γ : Meaning) (r : Result Checked TooHeavy) (m : Result Checked (Refusal × Read)) (listed : List Finding) (es : List TypeEntry)
-    (Gives : TooHeavy → Refusal × Read → Type 0) (told : MatchResult r (λ c. m ≡ Ok c) (λ e. IsErrAnd m (Gives e))) (long : Short s → ⊥) (proper : AllProper (length sheet) tree read.used)
+    (Gives : TooHeavy → Refusal × Read → Type 0) (told : MatchResult r (λ c. m ≡ Ok c) (λ e. IsErrAnd m (Gives e))) (long : Short s → ⊥) (ordered : TreeInOrder (length sheet) tree read)
     (sound : Sound Γ) (walk : (ss : List Expr) (ns : List Note) → Listed tree read.last ss → sizes ss ≤ 4096 → AllTyped sheet Γ ss ns → WalkedOrHeavy ns r listed es) where
   pub checks_heavy : is_err r ≡ true → (blanked : List Finding) → AllBlank blanked → ((e : TooHeavy) (d : Refusal × Read) → Gives e d → d ≡ (record { reason = HeavySheet; place = 0 }, read)) → Checks s sheet tree read Γ m blanked es
   checks_heavy heavy blanked blank says = go r m told walk heavy
@@ -67,7 +68,7 @@ module _ (s : Sizes) (sheet : List ℕ) (tree : List TreeEntry) (read : Read) (�
       go (Err e) m t w h =
           let d = err_from_is_err_and m t in
           subst (λ x. Checks s sheet tree read Γ x blanked es) (sym (d.1 ∙ ap Err (says e d.0 d.2)))
-          (too_heavy long proper (λ ss ns rep typed. w ss ns rep.listed rep.small typed), refl, blank)
+          (too_heavy long ordered (λ ss ns rep typed. w ss ns rep.listed rep.small typed), refl, blank)
 
   pub checks_walked : is_err r ≡ false → Checks s sheet tree read Γ m listed es
   checks_walked light = go r m told walk light
@@ -77,4 +78,4 @@ module _ (s : Sizes) (sheet : List ℕ) (tree : List TreeEntry) (read : Read) (�
       go (Err e) m t w h = absurd (false≢true (sym h))
       go (Ok c) m t w h =
           subst (λ x. Checks s sheet tree read Γ x listed es) (sym t)
-          (long, proper, λ ss rep. checked_as sheet Γ ss c listed es sound rep.written (λ ns typed. w ss ns rep.listed rep.small typed))
+          (long, ordered, λ ss rep. checked_as sheet Γ ss c listed es sound rep.written (λ ns typed. w ss ns rep.listed rep.small typed))

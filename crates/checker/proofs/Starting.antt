@@ -1,13 +1,10 @@
 -- The first frame of a walk, and what it has told in the end. Assumes nothing.
-use Rattle.std.proofs.Common.{◌≡◌, ℕ, suc, ◌+◌, ◌-◌, ◌<◌, ◌≤◌, List, [], ◌∷◌, length, get_or, Ok, Err, Option, Result, sym, ap, ◌∙◌, subst, append-nil, arith}
+use Rattle.std.proofs.Common.{◌≡◌, ℕ, suc, ◌+◌, ◌<◌, ◌≤◌, List, [], ◌∷◌, length, Ok, Err, Option, Result, sym, ap, ◌∙◌, subst, append-nil, arith}
 use Rattle.std.specs.Result.{IsErr}
 use Rattle.std.proofs.lemmas.Bool.{false≢true}
 use Rattle.stack.specs.declared.Stack.{Stack}
 use Rattle.stack.specs.Items.{held, room}
 use Rattle.types.specs.declared.entries.TypeEntry.{TypeEntry}
-use Rattle.types.specs.Types.{any}
-use Rattle.types.specs.Table.{Is, entry_at}
-use Rattle.types.proofs.Lower.{higher}
 use Rattle.registers.specs.Meaning.{Meaning, Sound}
 use Rattle.parser.specs.declared.tree.TreeEntry.{TreeEntry}
 use Rattle.parser.specs.declared.tree.WalkFrame.{WalkFrame}
@@ -20,11 +17,12 @@ use Rattle.checker.specs.declared.store.TooHeavy.{TooHeavy}
 use Rattle.checker.specs.Rules.{Note, AllTyped, conditions, types}
 use Rattle.checker.specs.Findings.{none, blank, FirstOf, weigh}
 use Rattle.checker.specs.Stores.{entries, Tabled}
+use Rattle.checker.specs.Orders.{TypesHeld}
 use Rattle.checker.specs.Owing.{exprs, turns, owes_none, owes_statements, Going, going}
 use Rattle.checker.specs.Standing.{State, Rooms, Operands, no_operands, Goes, Runs, Tells, Told}
 use Rattle.checker.specs.Walks.{WalkedAs, WalkedOrHeavy}
 use Rattle.checker.proofs.Notes.{few_notes_of_all}
-use Rattle.checker.proofs.Ordered.{is_orderly, is_no_unit, stands_orderly}
+use Rattle.checker.proofs.Ordered.{is_type, is_orderly, stands_orderly}
 
 counted : (ss : List Expr) → (sizes ss ≡ exprs ss + length ss) × (turns ss ≡ exprs ss + exprs ss + length ss)
 counted [] = (omega arith, omega arith)
@@ -73,15 +71,16 @@ walked ns w c n e u t k = record {
   count = n ∙ t.kept.counts;
   list = t.kept.holds;
   expressions = e ∙ k.count;
-  types_held = λ i l. held_at i l;
+  light = omega (arith, u, e, k.light, k.load);
+  types_held = heads;
   in_order = (
     λ i l. stands_orderly (k.filled i (omega arith) (omega (arith, u))),
-    λ i l. let h = held_at i (omega (arith, e, k.count)) in (is_orderly h, is_no_unit h),
+    λ i l. let h = heads i (omega (arith, e, k.count)) in (is_orderly h, is_type h),
   );
 }
   where
-    held_at : (i : ℕ) → i < length (types ns) → Is (entries w.store) (8191 - i) (entry_at (entries w.store) (8191 - i)) (get_or (types ns) i any)
-    held_at i l = higher (8191 - i) (omega (arith, k.count, k.light, k.within)) (k.heads i l)
+    heads : TypesHeld (entries w.store) c.used (types ns)
+    heads = subst (λ n. TypesHeld (entries w.store) n (types ns)) (sym u) k.heads
 
 -- or its load is too high
 pub walked_heavy : (ns : List Note) (r : Result Checked TooHeavy) (listed : List Finding) (es : List TypeEntry) → IsErr r → 8192 < weigh (types ns) → WalkedOrHeavy ns r listed es

@@ -1,5 +1,7 @@
 -- In a sound scope an expression that can be read has a type, and the type of an expression is in form. Assumes nothing.
-use Rattle.std.proofs.Common.{◌≡◌, ℕ, List, Some, None, Option, sym, refl, subst, inl, lit<}
+use Rattle.std.proofs.Common.{◌≡◌, ℕ, List, [], ◌∷◌, ◌++◌, Some, None, Option, sym, refl, subst, inl, lit<}
+use Rattle.std.specs.List.{AllByRecursion}
+use Rattle.std.proofs.ByRecursion.{All-append}
 use Rattle.types.specs.declared.kinds.Kind.TheVariants as kind
 use Rattle.types.specs.Types.{Ty, any, number, number_literal, string, string_literal, boolean, true_literal, false_literal, undefined, null, function, pair, list, union, no_types, ◌and◌}
 use Rattle.types.specs.Kinds.{OfKind, number_kind, string_kind}
@@ -15,10 +17,11 @@ use Rattle.parser.specs.declared.symbols.Prefix.TheVariants.{Not, Negate, Typeof
 use Rattle.parser.specs.declared.symbols.Operator.{Operator}
 use Rattle.parser.specs.declared.symbols.Operator.TheVariants.{Multiply, Divide, Remainder, Add, Subtract, Less, Greater, AtMost, AtLeast, Same, Differs, And, Or}
 use Rattle.parser.specs.Syntax.{Expr, place}
-use Rattle.checker.specs.Conditions.{Condition}
-use Rattle.checker.specs.Rules.{part, type_of, LeafRule, a_number, a_string, a_true, a_false, a_null, a_name, PrefixRule, a_not, a_negation, a_typeof, by_minus, by_times, by_over, by_remainder, by_less, by_greater, by_at_most, by_at_least, by_same, by_differs, by_and, by_or, Logical, Numeric, is_number, is_number_literal, Textual, is_string, is_string_literal, Open, number_or_string, InfixRule, arithmetic, comparison, logical, left_number, left_string, right_number, right_string, both_open, Note, Typed, typed_leaf, typed_unary, typed_binary, typed_choice, AllTyped, typed_none, typed_more}
+use Rattle.checker.specs.Conditions.{Condition, fits}
+use Rattle.checker.specs.Rules.{part, type_of, LeafRule, a_number, a_string, a_true, a_false, a_null, a_name, PrefixRule, a_not, a_negation, a_typeof, by_minus, by_times, by_over, by_remainder, by_less, by_greater, by_at_most, by_at_least, by_same, by_differs, by_and, by_or, Logical, Numeric, is_number, is_number_literal, Textual, is_string, is_string_literal, Open, number_or_string, InfixRule, arithmetic, comparison, logical, left_number, left_string, right_number, right_string, both_open, Note, ends, types, Typed, typed_leaf, typed_unary, typed_binary, typed_choice, AllTyped, typed_none, typed_more}
 use Rattle.checker.specs.Readable.{Legible, Readable, readable_leaf, readable_unary, readable_binary, readable_choice, AllReadable, readable_none, readable_more}
-use Rattle.checker.specs.Laws.{TypingExists}
+use Rattle.checker.specs.Laws.{TypingExists, TypesInForm}
+use Rattle.checker.proofs.Logging.{types_append}
 use Rattle.checker.proofs.Readings.{written_readable}
 
 bound_form : (o : Option Binding) → ((b : Binding) → o ≡ Some b → Fit b) → InForm (type_of o)
@@ -158,3 +161,26 @@ module _ (sheet : List ℕ) (Γ : Meaning) (sound : Sound Γ) where
 
 pub typing_exists_law : TypingExists
 typing_exists_law sheet Γ es sound w = all_typing_exists sheet Γ sound (written_readable w)
+
+-- where an expression ends, its own type is noted
+ends_form : (cs : List Condition) {t : Ty} → InForm t → AllByRecursion InForm (types (ends cs t))
+ends_form [] f = (f, tt)
+ends_form (c ∷ cs) f = ends_form cs f
+
+join_forms : (ms ns : List Note) → AllByRecursion InForm (types ms) → AllByRecursion InForm (types ns) → AllByRecursion InForm (types (ms ++ ns))
+join_forms ms ns p q = subst (AllByRecursion InForm) (sym (types_append ms ns)) (All-append InForm (types ms) (types ns) p q)
+
+module _ {sheet : List ℕ} {Γ : Meaning} (sound : Sound Γ) where
+  forms : {e : Expr} {t : Ty} {ns : List Note} → Typed sheet Γ e t ns → AllByRecursion InForm (types ns)
+  forms (typed_leaf {cs = cs} r) = ends_form cs (leaf_form sheet Γ sound r)
+  forms (typed_unary {ns = ns} {cs = cs} x r) = join_forms ns _ (forms x) (ends_form cs (prefix_form r))
+  forms (typed_binary {ms = ms} {ns = ns} {cs = cs} x y r) = join_forms ms _ (forms x) (join_forms ns _ (forms y) (ends_form cs (infix_form (typed_form sheet Γ sound y) r)))
+  forms (typed_choice {a = a} {r = r} {ls = ls} {ms = ms} {ns = ns} x y z u) =
+      join_forms ls _ (forms x) (join_forms ms _ (forms y) (join_forms ns _ (forms z) (ends_form (fits (place a) r boolean ∷ []) (union_in_form (two_forms (typed_form sheet Γ sound y) (typed_form sheet Γ sound z)) u))))
+
+  all_forms : {es : List Expr} {ns : List Note} → AllTyped sheet Γ es ns → AllByRecursion InForm (types ns)
+  all_forms typed_none = tt
+  all_forms (typed_more {ms = ms} {ns = ns} x xs) = join_forms ms ns (forms x) (all_forms xs)
+
+pub types_in_form_law : TypesInForm
+types_in_form_law sheet Γ es ns sound t = all_forms sound t

@@ -1,12 +1,14 @@
 -- What holds of typings and findings. Assumes nothing.
 use Rattle.std.specs.Prelude.{◌≡◌, ℕ, List, length}
+use Rattle.std.specs.List.{AllByRecursion}
 use Rattle.types.specs.Types.{Ty}
+use Rattle.building.specs.Forms.{InForm}
 use Rattle.registers.specs.Meaning.{Meaning, Sound}
 use Rattle.parser.specs.Syntax.{Expr}
 use Rattle.parser.specs.Reading.{Written}
 use Rattle.checker.specs.declared.finding.Finding.{Finding}
 use Rattle.checker.specs.Conditions.{Condition, AllMet}
-use Rattle.checker.specs.Rules.{Note, Typed, AllTyped}
+use Rattle.checker.specs.Rules.{Note, Typed, AllTyped, types}
 use Rattle.checker.specs.Findings.{Findings}
 
 -- an expression has at most one type and one list of notes, and so has a program
@@ -18,6 +20,10 @@ OneTyping =
 -- in a sound scope the program of a sheet has a typing
 abbrev pub TypingExists : Type 0
 TypingExists = (sheet : List ℕ) (Γ : Meaning) (es : List Expr) → Sound Γ → Written sheet es → (ns : List Note) × AllTyped sheet Γ es ns
+
+-- and the types of its expressions are all in form
+abbrev pub TypesInForm : Type 0
+TypesInForm = (sheet : List ℕ) (Γ : Meaning) (es : List Expr) (ns : List Note) → Sound Γ → AllTyped sheet Γ es ns → AllByRecursion InForm (types ns)
 
 -- conditions have one list of findings, and it is empty just where each condition is met
 abbrev pub FindingsTell : Type 0

@@ -11,6 +11,7 @@ use Rattle.checker.specs.declared.finding.Finding.{Finding}
 use Rattle.checker.specs.declared.run.Refused.{Refused}
 use Rattle.checker.specs.declared.run.Refused.TheVariants.{Read, Check}
 use Rattle.checker.specs.declared.stage.Checked.{Checked}
+use Rattle.checker.specs.Findings.{AllBlank}
 use Rattle.checker.specs.Checks.{CheckedAs}
 use Rattle.checker.specs.Runs.{AnswersTo, Readable}
 
@@ -25,10 +26,10 @@ refusing (Read e) = ReadRefused e
 refusing (Check e) = CheckRefused e
 
 -- The sheet was checked: it is a program, whose findings and types are left in the list and the table. Or it was refused, as
--- a run would answer.
+-- a run would answer, and the list is blank.
 abbrev pub ReadsAndChecks : Sizes → Meaning → List ℕ → Result Checked Refused → List Finding → List TypeEntry → Type 0
 ReadsAndChecks s Γ sheet (Ok c) listed es = (ss : List Expr) × Readable s sheet ss × CheckedAs sheet Γ ss c listed es
-ReadsAndChecks s Γ sheet (Err e) listed es = AnswersTo s Γ sheet (refusing e)
+ReadsAndChecks s Γ sheet (Err e) listed es = AnswersTo s Γ sheet (refusing e) × AllBlank listed
 
 -- what a run answers of either
 abbrev pub saying : Result Checked Refused → Answer

@@ -15,7 +15,7 @@ use Rattle.checker.specs.declared.calls.Answer.TheVariants.{Blank, ReadRefused, 
 use Rattle.checker.specs.declared.finding.Finding.{Finding}
 use Rattle.checker.specs.declared.stage.Checked.{Checked}
 use Rattle.checker.specs.Rules.{Note, AllTyped, conditions, types}
-use Rattle.checker.specs.Findings.{Findings, Derivation, weigh}
+use Rattle.checker.specs.Findings.{Findings, AllBlank, Derivation, weigh}
 use Rattle.checker.specs.Checks.{CheckedAs}
 
 -- the sheet breaks no rule of reading, and is the program ss and no other
@@ -55,18 +55,21 @@ Answers s Γ Δ (Check sheet) a = AnswersTo s Γ sheet.now a
 abbrev pub sheet_of : Call → List ℕ
 sheet_of (Check sheet) = sheet.now
 
--- The last call was about this sheet. Where it was checked, the findings list and the type table are those of its program.
-pub data Left (s : Sizes) (Γ : Meaning) (sheet : List ℕ) (listed : List Finding) (es : List TypeEntry) : Option Checked → Type 0 where
-  nothing_left : Left s Γ sheet listed es None
-  checked_left : {c : Checked} (ss : List Expr) → Readable s sheet ss → CheckedAs sheet Γ ss c listed es → Left s Γ sheet listed es (Some c)
+-- What the last call left, by its answer: where its sheet was checked, the findings list and the type table are those of its
+-- program; where it was refused, the list is blank.
+pub data Left (s : Sizes) (Γ : Meaning) (sheet : List ℕ) (listed : List Finding) (es : List TypeEntry) : Answer → Option Checked → Type 0 where
+  unread_left : {e : Refusal} → AllBlank listed → Left s Γ sheet listed es (ReadRefused e) None
+  unchecked_left : {e : Refusal} → AllBlank listed → Left s Γ sheet listed es (CheckRefused e) None
+  checked_left : {c : Checked} (ss : List Expr) → Readable s sheet ss → CheckedAs sheet Γ ss c listed es → Left s Γ sheet listed es (Counted c.count c.expressions) (Some c)
 
--- The first n calls answer lawfully; the places after theirs stay as they were; and what is left is the last one's.
-pub record Lawful (s : Sizes) (Γ Δ : Meaning) (calls : List Call) (said told : List Answer) (n : ℕ) (listed : List Finding) (es : List TypeEntry) (last : Option Checked) : Type 0 where
+-- The first n calls answer lawfully; the places after theirs stay as they were; and what is left is the last one's, or, where
+-- no call was made, the findings list as it was given.
+pub record Lawful (s : Sizes) (Γ Δ : Meaning) (calls : List Call) (said told : List Answer) (n : ℕ) (given listed : List Finding) (es : List TypeEntry) (last : Option Checked) : Type 0 where
   pub law : (i : ℕ) (d : Call) → i < n → Answers s Γ Δ (slice_index_or calls i d) (slice_index_or told i Blank)
   pub rest : (i : ℕ) → n ≤ i → slice_index_or told i Blank ≡ slice_index_or said i Blank
-  pub left : (i : ℕ) (d : Call) → i + 1 ≡ n → Left s Γ (sheet_of (slice_index_or calls i d)) listed es last
-  pub none : n ≡ 0 → last ≡ None
+  pub left : (i : ℕ) (d : Call) → i + 1 ≡ n → Left s Γ (sheet_of (slice_index_or calls i d)) listed es (slice_index_or told i Blank) last
+  pub none : n ≡ 0 → (last ≡ None) × (listed ≡ given)
 
 -- every call for which there is a place does
-abbrev pub RunsLawfully : Sizes → Meaning → Meaning → List Call → List Answer → List Answer → List Finding → List TypeEntry → Option Checked → Type 0
-RunsLawfully s Γ Δ calls said told listed es last = Lawful s Γ Δ calls said told (min (length calls) (length said)) listed es last
+abbrev pub RunsLawfully : Sizes → Meaning → Meaning → List Call → List Answer → List Answer → List Finding → List Finding → List TypeEntry → Option Checked → Type 0
+RunsLawfully s Γ Δ calls said told given listed es last = Lawful s Γ Δ calls said told (min (length calls) (length said)) given listed es last

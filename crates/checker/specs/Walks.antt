@@ -1,5 +1,5 @@
 -- What a walk over the whole tree answers. No public contract cites it. Assumes nothing.
-use Rattle.std.specs.Prelude.{◌≡◌, ℕ, ◌<◌, ◌≤◌, List, length, Ok, Err, Option, Result}
+use Rattle.std.specs.Prelude.{◌≡◌, ℕ, ◌+◌, ◌<◌, ◌≤◌, List, length, Ok, Err, Option, Result}
 use Rattle.types.specs.declared.entries.TypeEntry.{TypeEntry}
 use Rattle.registers.specs.Meaning.{Meaning, Sound}
 use Rattle.parser.specs.declared.tree.TreeEntry.{TreeEntry}
@@ -20,7 +20,8 @@ pub record WalkedAs (ns : List Note) (c : Checked) (listed : List Finding) (es :
   pub count : c.count ≡ length found
   pub list : FirstOf blank listed found
   pub expressions : c.expressions ≡ length (types ns)
-  pub types_held : TypesHeld es (types ns)
+  pub light : c.used + c.expressions ≤ weigh (types ns)
+  pub types_held : TypesHeld es c.used (types ns)
   pub in_order : IsInOrder es c.used c.expressions
 
 -- they are, or their load is too high

@@ -6,7 +6,7 @@ ghost use Rattle.checker.specs.Walks.{Walks};
 
 use crate::finding::{Finding, blank_out};
 use crate::first::First;
-use crate::proper::proper;
+use crate::proper::tree_in_order;
 use crate::stage::Checked;
 use crate::store::{Store, TooHeavy};
 use crate::walk::{Source, Walk};
@@ -52,7 +52,8 @@ fn walk_over<'a, R: Register>(
 }
 
 // Checks a sheet that was read, in the scope of the first register; the second one is asked for what a sheet imports, and
-// no sheet imports anything yet. A refused check gives the reading back, and its findings list is blank.
+// no sheet imports anything yet. A refused check gives the reading back, and its findings list is blank. What the stacks hold
+// after is free, and so is what the type entries that are not in use hold, and after a refusal all of them.
 pub fn check<F: Register, S: Register>(
     reading: Read,
     sheet: &[u8],
@@ -69,7 +70,7 @@ pub fn check<F: Register, S: Register>(
     if tables.is_short(tree.len()) {
         return Err((Reason::ShortTable.at(0), reading));
     }
-    if !proper(sheet.len(), tree, reading.used()) {
+    if !tree_in_order(sheet.len(), tree, reading.used(), reading.last()) {
         return Err((Reason::Damaged.at(0), reading));
     }
     let source = Source {

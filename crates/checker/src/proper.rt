@@ -76,8 +76,15 @@ fn is_proper(sheet_len: usize, tree: &[TreeEntry], i: usize) -> bool
 }
 
 // Whether the first `used` entries are in order, over a sheet of this size.
-pub fn proper(sheet_len: usize, tree: &[TreeEntry], used: usize) -> bool
+fn proper(sheet_len: usize, tree: &[TreeEntry], used: usize) -> bool
     ensures { Decides result (AllProper sheet_len tree.now used) }
 {
     (0..used).all(|i| is_proper(sheet_len, tree, i))
+}
+
+// The same, and the last statement, if there is one, is one of these entries.
+pub fn tree_in_order(sheet_len: usize, tree: &[TreeEntry], used: usize, last: Option<usize>) -> bool
+    ensures { Decides result (AllProper sheet_len tree.now used × Earlier tree.now used last) }
+{
+    proper(sheet_len, tree, used) && is_earlier(tree, used, last)
 }

@@ -6,7 +6,7 @@ ghost use Rattle.checker.specs.Runs.{RunsLawfully, sheet_of};
 
 use crate::calls::{Answer, Call};
 use crate::check::check;
-use crate::finding::Finding;
+use crate::finding::{Finding, blank_out};
 use crate::stage::Checked;
 use lexer::refusal::Refusal;
 use parser::read;
@@ -45,9 +45,9 @@ impl From<Refused> for Answer {
     }
 }
 
-// Reads a sheet, and checks it in the scope of the first register, as `check` does. The registers, the tree, the tables and
-// the findings are parameters one by one, here and below: a read writes the tree and a check reads it, and of what is lent on
-// inside a struct a proof knows the length alone.
+// Reads a sheet, and checks it in the scope of the first register, as `check` does. Where it is refused, the findings list is
+// blank. The registers, the tree, the tables and the findings are parameters one by one, here and below: a read writes the tree
+// and a check reads it, and of what is lent on inside a struct a proof knows the length alone.
 pub fn read_and_check<F: Register, S: Register>(
     sheet: &[u8],
     first: &F,
@@ -59,7 +59,11 @@ pub fn read_and_check<F: Register, S: Register>(
     ensures checks { ReadsAndChecks (sizes_of (length tree.old) tables.old) (F.Register.meaning first.now) sheet.now result findings.new tables.new.types.now }
     ensures lent { Lent tables.old tables.new }
 {
-    let reading = read(sheet, tree, tables).map_err(Refused::Read)?;
+    let reading = read(sheet, tree, tables).map_err(Refused::Read);
+    if reading.is_err() {
+        blank_out(findings);
+    }
+    let reading = reading?;
     check(reading, sheet, tree, first, second, tables, findings).map_err(|(e, _)| Refused::Check(e))
 }
 
@@ -98,7 +102,8 @@ fn said_of(outcome: &Result<Checked, Refused>) -> Answer
 }
 
 // Makes the calls one after the other, as many as there are places for answers, and says what each answers. Where the last
-// one was checked, it gives that too: the findings list and the type table are then that sheet's.
+// one was checked, it gives that too: the findings list and the type table are then that sheet's. Where the last one was
+// refused, the findings list is blank. What the other tables hold after is free.
 pub fn run<F: Register, S: Register>(
     first: &F,
     second: &S,
@@ -108,7 +113,7 @@ pub fn run<F: Register, S: Register>(
     tables: &mut Tables<'_>,
     findings: &mut [Finding],
 ) -> Option<Checked>
-    ensures runs { RunsLawfully (sizes_of (length tree.old) tables.old) (F.Register.meaning first.now) (S.Register.meaning second.now) calls.now said.old said.new findings.new tables.new.types.now result }
+    ensures runs { RunsLawfully (sizes_of (length tree.old) tables.old) (F.Register.meaning first.now) (S.Register.meaning second.now) calls.now said.old said.new findings.old findings.new tables.new.types.now result }
     ensures lent { Lent tables.old tables.new }
 {
     let mut last = None;

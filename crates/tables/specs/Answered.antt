@@ -11,11 +11,10 @@ use Rattle.tables.specs.declared.Outcome.{Outcome}
 abbrev pub full : Sizes
 full = record { of_tree = 4096; of_operators = 4096; of_frames = 4096; of_types = 8192 }
 
--- over tables of some sizes, the answer is the lawful one, and the findings list and the types are those that a checked
--- sheet leaves
+-- over tables of some sizes, the answer is the lawful one, and the findings list and the types are those that it leaves
 pub record AnsweredOver (s : Sizes) (sheet : List ℕ) (o : Outcome) (listed : List Finding) (es : List TypeEntry) : Type 0 where
   pub lawful : AnswersTo s library sheet o.answer
-  pub left : Left s library sheet listed es o.checked
+  pub left : Left s library sheet listed es o.answer o.checked
 
 abbrev pub Answered : List ℕ → Outcome → List Finding → List TypeEntry → Type 0
 Answered = AnsweredOver full

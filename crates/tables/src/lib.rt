@@ -80,7 +80,8 @@ impl Tables {
         })
     }
 
-    // Checks a sheet by the library, with a findings list of any length. The types are those of this sheet after.
+    // Checks a sheet by the library, with a findings list of any length. The types are those of this sheet after, where it was
+    // checked; where it was refused, the findings list is blank.
     pub fn check(&mut self, sheet: &[u8], findings: &mut [Finding]) -> Outcome
         ensures { Answered sheet.now result findings.new self.new.types.items }
     {

@@ -13,5 +13,5 @@ returns-in-Ok c =
 
 pub returns-in-Err : goal.returns-in-Err
 returns-in-Err c =
-    tell_not_checked c.args.sheet.now c.args.out.now (full (omega arith) (omega arith) (omega arith) (omega arith)) c.if-out-lt-HEAD.false c.refused.new.out c.refused.result c.in-Err.e c.from.result c.in-Err.ensures.checks c.from.ensures
+    tell_not_checked c.args.sheet.now c.args.out.now (full (omega arith) (omega arith) (omega arith) (omega arith)) c.if-out-lt-HEAD.false c.refused.new.out c.refused.result c.in-Err.e c.from.result c.in-Err.ensures.checks.0 c.from.ensures
     c.refused.ensures.written c.refused.ensures.number

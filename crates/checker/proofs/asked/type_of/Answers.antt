@@ -1,6 +1,7 @@
 use Rattle.std.proofs.Common.{arith}
 use Rattle.std.proofs.lemmas.Bool.Decides.{not_from_Decides}
 use Rattle.checker.specs.Orders.{short_table, no_expression, damaged}
+use Rattle.checker.proofs.Ordered.{told_at}
 use Rattle.checker.proofs.asked.type_of.Goals as goal
 
 pub returns-then-types-lt-TYPES : goal.returns-then-types-lt-TYPES
@@ -16,3 +17,6 @@ returns-then-not-in_order c =
     damaged c.if-types-lt-TYPES.false (omega (arith, c.if-number-expressions.false, c.expressions.ensures))
     (not_from_Decides _ c.in_order.ensures c.if-not-in_order.true)
     )
+
+pub returns : goal.returns
+returns c = told_at _ _ _ _ c.if-types-lt-TYPES.false (omega (arith, c.if-number-expressions.false, c.expressions.ensures)) (c.in_order.ensures.0 c.if-not-in_order.false) c.head_of.ensures

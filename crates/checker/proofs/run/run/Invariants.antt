@@ -7,6 +7,6 @@ abbrev pub invariant-loop-i : goal.invariant-loop-i
 invariant-loop-i g l = record {
   lawful :
       Lawful (sizes_of (length l.initial.tree) l.initial.tables) (g.F.Register.meaning l.first) (g.S.Register.meaning l.second)
-      l.calls l.initial.said l.said l.i l.findings l.tables.types.now l.last;
+      l.calls l.initial.said l.said l.i l.initial.findings l.findings l.tables.types.now l.last;
   lent : Lent l.initial.tables l.tables;
 }
