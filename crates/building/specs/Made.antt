@@ -1,5 +1,5 @@
 -- What the functions on the type table answer. Assumes nothing.
-use Rattle.std.specs.Prelude.{◌≡◌, ℕ, ◌+◌, ◌<◌, ◌≤◌, min, Bool, List, [], ◌∷◌, length, Some, None, Decides, Option, Ok, Err, Result}
+use Rattle.std.specs.Prelude.{◌≡◌, ℕ, ◌+◌, ◌<◌, ◌≤◌, min, Bool, ◌⊎◌, List, [], ◌∷◌, length, Some, None, Decides, Option, Ok, Err, Result}
 use Rattle.types.specs.declared.entries.TypeEntry.{TypeEntry}
 use Rattle.types.specs.declared.entries.TypeEntry.TheVariants.{CodeUnit}
 use Rattle.types.specs.Types.{Ty, Types, function, pair, list, no_types, ◌and◌, count}
@@ -95,9 +95,14 @@ pub data Hold (es : List TypeEntry) (n : ℕ) : List TypeEntry → Types → Typ
   hold_none : Hold es n [] no_types
   hold_more : {e : TypeEntry} {hs : List TypeEntry} {t : Ty} {ts : Types} → Is es n e t → Hold es n hs ts → Hold es n (e ∷ hs) (t and ts)
 
+-- the answer r: the function type of ts and t in fs, where ts are at most eight; or that ts are over eight, or do not fit in with t from used on
+abbrev pub FunctionOrNone : List TypeEntry → List TypeEntry → ℕ → Types → Ty → Option Root → Type 0
+FunctionOrNone es fs used ts t (Some m) = (count ts ≤ 8) × TypeMade fs used (function ts t) m
+FunctionOrNone es fs used ts t None = (8 < count ts) ⊎ (length es < used + (count ts + 1))
+
 -- the function type of the parameters ps and the result e, whose parts stand below used
 abbrev pub MakesFunction : List TypeEntry → List TypeEntry → ℕ → List TypeEntry → TypeEntry → Option Root → Type 0
-MakesFunction es fs used ps e r = (ts : Types) (t : Ty) → Hold es used ps ts → Is es used e t → TypeOrNone es fs used (count ts + 1) (function ts t) r
+MakesFunction es fs used ps e r = (ts : Types) (t : Ty) → Hold es used ps ts → Is es used e t → FunctionOrNone es fs used ts t r
 
 -- c is the type t, copied with all entries that m has in use
 pub record CopyMade (es : List TypeEntry) (used : ℕ) (t : Ty) (m c : Root) : Type 0 where

@@ -4,8 +4,11 @@ ghost use Rattle.building.specs.Made.{Kept, MakesFunction};
 use crate::put::put;
 use types::entries::{Root, TypeEntry};
 
+// How many parameters a function type can have.
+const PARAMETERS: usize = 8;
+
 // The function type of some parameters and a result, whose parts stand below `used`.
-// None where the parameters and the result do not fit in from `used` on.
+// None where there are over eight parameters, or where they and the result do not fit in from `used` on.
 pub fn function_of(
     types: &mut [TypeEntry],
     used: usize,
@@ -15,6 +18,9 @@ pub fn function_of(
     ensures made { MakesFunction types.old types.new used parameters.now res result }
     ensures kept { Kept types.old types.new used }
 {
+    if parameters.len() > PARAMETERS {
+        return None;
+    }
     let result_at = put(types, used, parameters)?;
     let end = put(types, result_at, &[res])?;
     Some(Root {

@@ -43,7 +43,7 @@ abbrev pub weight_of : Binding → ℕ
 weight_of (typed t) = weight t
 weight_of (scheme s) = 1
 
--- every union in a type that is bound is in form
+-- a type that is bound is in form
 abbrev pub Formed : Binding → Type 0
 Formed (typed t) = InForm t
 Formed (scheme s) = Unit {0}

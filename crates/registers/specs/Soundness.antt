@@ -38,13 +38,13 @@ scheme_fits : (s : Scheme) → Fit (scheme s)
 scheme_fits s = record { light = omega arith; formed = tt }
 
 nullary : {r : Ty} → InForm r → InForm (function no_types r)
-nullary = form_function form_none
+nullary = form_function (lit≤ tt) form_none
 
 unary : {a r : Ty} → InForm a → InForm r → InForm (function (a and no_types) r)
-unary f = form_function (form_more f form_none)
+unary f = form_function (lit≤ tt) (form_more f form_none)
 
 binary : {a b r : Ty} → InForm a → InForm b → InForm r → InForm (function (a and b and no_types) r)
-binary f g = form_function (form_more f (form_more g form_none))
+binary f g = form_function (lit≤ tt) (form_more f (form_more g form_none))
 
 pub library_sound : Sound library
 library_sound =

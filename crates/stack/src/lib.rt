@@ -1,7 +1,7 @@
 // A stack over a lent slice, for every kind of entry. No call asks anything of its caller.
 #![tactic(auto)]
 
-ghost use Rattle.std.specs.Prelude.{◌≡◌, ◌<◌, ◌≤◌, List, [], ◌∷◌, ◌++◌, length, MatchOption};
+ghost use Rattle.std.specs.Prelude.{◌≡◌, ◌<◌, ◌≤◌, List, [], ◌∷◌, length, MatchOption};
 ghost use Rattle.stack.specs.Items.{held, room};
 
 // The caller lends the slots, since reading and checking allocate nothing: so it is a slice and a count, and no `Vec`.
@@ -60,13 +60,5 @@ impl<'a, T: Copy> Stack<'a, T> {
         ensures { result ≡ length (held self.now) }
     {
         self.len.min(self.slots.len())
-    }
-
-    // Takes entries off until n are left.
-    pub fn cut(&mut self, n: usize)
-        ensures holds { (xs ys : List T) → held self.old ≡ xs ++ ys → length ys ≡ n → held self.new ≡ ys }
-        ensures space { room self.new ≡ room self.old }
-    {
-        self.len = self.len.min(n);
     }
 }
