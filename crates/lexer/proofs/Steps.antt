@@ -1,7 +1,8 @@
 -- One step of reading. Assumes nothing.
 use Rattle.std.proofs.lemmas.Grind.{common_steps}
-use Rattle.std.proofs.Common.{rules, ◌≡◌, ℕ, ◌+◌, ◌-◌, ◌<◌, ◌≤◌, List, length, take, drop, Some, None, Ok, Err, Option, Result, sym, subst, arith, length-drop}
-use Rattle.std.specs.Option.{ok_or}
+use Rattle.std.proofs.lemmas.Bool.{false≢true}
+use Rattle.std.proofs.Common.{rules, ◌≡◌, ℕ, ◌+◌, ◌-◌, ◌<◌, ◌≤◌, List, length, take, drop, Some, None, Ok, Err, Option, Result, true, sym, refl, subst, arith, length-drop}
+use Rattle.std.specs.Option.{ok_or, is_some}
 use Rattle.lexer.specs.Gaps.{Gap}
 use Rattle.lexer.specs.Sizes.{Small}
 use Rattle.lexer.specs.Founds.{FoundAt}
@@ -30,13 +31,17 @@ module _ (sheet : List ℕ) (at g : ℕ) (l r : List ℕ) (before : l ≡ drop a
 
 -- what a step gave
 
-pub onward : (sheet : List ℕ) (at : ℕ) (t : Token) (next : ℕ) → at ≤ length sheet → Given sheet at t next → (at < next) × (next ≤ length sheet)
-onward sheet at t next h g = search (rules, token_some, length-drop)
+pub onward : (sheet : List ℕ) (at : ℕ) (t : Token) (next : ℕ) → Given sheet at t next → (at < next) × (next ≤ length sheet)
+onward sheet at t next g = search (rules, token_some, length-drop)
 
 -- the same, where the reader's sheet is known to be the sheet
 module _ {s sheet : List ℕ} (same : s ≡ sheet) where
   pub given : {at next : ℕ} (t : Token) (o : Option Token) → o ≡ Some t → Reads s at (Ok o) next → Given sheet at t next
   given t o e g = grind arith
+
+  pub given_some : {at next : ℕ} (o : Option Token) → is_some o ≡ true → Reads s at (Ok o) next → (t : Token) × Given sheet at t next
+  given_some None e g = absurd (false≢true e)
+  given_some (Some t) e g = (t, given t _ refl g)
 
   pub finished_at : {at : ℕ} (next : ℕ) (o : Option Token) → o ≡ None → Reads s at (Ok o) next → Finished sheet at
   finished_at next o e g = grind arith

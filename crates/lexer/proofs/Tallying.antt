@@ -1,31 +1,32 @@
 -- One token more in a tally, and the end of one. Assumes nothing.
-use Rattle.std.proofs.Common.{rules, Bool, true, false, eqb, ◌≡◌, ℕ, suc, ◌+◌, ◌<◌, ◌≤◌, ◌⊎◌, List, [], ◌∷◌, length, Some, None, Decides, Option, sym, refl, ap, ◌∙◌, subst, inl, inr, ⊎_elim, arith, take, drop, IfSome}
+use Rattle.std.proofs.Common.{rules, Bool, true, false, eqb, ◌≡◌, ℕ, suc, ◌+◌, ◌<◌, ◌≤◌, ◌⊎◌, List, [], ◌∷◌, length, Some, None, Ok, Decides, Option, sym, refl, ap, ◌∙◌, subst, inl, inr, ⊎_elim, arith, take, drop, IfSome}
 use Rattle.std.proofs.lemmas.Bool.{cases_Bool, false≢true, eqb-true, eqb-false}
 use Rattle.std.specs.Bool.{then_some}
-use Rattle.std.specs.Option.{option_or}
+use Rattle.std.specs.Option.{option_or, is_some}
 use Rattle.lexer.specs.Sizes.{Small}
 use Rattle.lexer.specs.Faults.{FirstFault}
 use Rattle.lexer.specs.declared.reasons.Reason.TheVariants.{LineFeed, ManyTokens}
 use Rattle.lexer.specs.Reading.{Lexes, done, refused, token, Ending, finished, Given, Finished, Stopped}
 use Rattle.lexer.specs.declared.refusal.Refusal.{Refusal}
-use Rattle.lexer.specs.Scanning.{Tok, text, nth, next_here, next_later, BrokenLine, broken_line, TokenFault, Clean}
-use Rattle.lexer.specs.Tallies.{tok_of, joined, EndsIn, OverAt, Seen, Whole, Tallied, Breaks}
+use Rattle.lexer.specs.Scanning.{Tok, text, nth, next_here, next_later, FeedBetween, BrokenLine, broken_line, TokenFault, Clean}
+use Rattle.lexer.specs.Tallies.{tok_of, joined, EndsAt, OverAt, Seen, Whole, Tallied, Breaks, Counted, Counts}
 use Rattle.lexer.specs.declared.read.Token.{Token}
 use Rattle.lexer.specs.declared.scan.Tally.{Tally}
+use Rattle.lexer.specs.declared.scan.Scanner.{Scanner}
 use Rattle.lexer.proofs.Steps.{onward}
 use Rattle.lexer.proofs.Firsts.{token_some}
 use Rattle.lexer.proofs.Verdicts.{stopped_first, line_first, many_first, clean}
 
 -- the line that is recorded, by whether one was before
-pub data Recorded (a : Tally) (sheet : List ℕ) (t : Token) (r : Option ℕ) : Type 0 where
-  before : (q : ℕ) → a.line ≡ Some q → r ≡ Some q → Recorded a sheet t r
-  here : a.line ≡ None → Breaks a.last sheet t → r ≡ Some t.at → Recorded a sheet t r
-  nowhere : a.line ≡ None → (Breaks a.last sheet t → ⊥) → r ≡ None → Recorded a sheet t r
+pub data Recorded (a : Tally) (sheet : List ℕ) (at : ℕ) (t : Token) (r : Option ℕ) : Type 0 where
+  before : (q : ℕ) → a.line ≡ Some q → r ≡ Some q → Recorded a sheet at t r
+  here : a.line ≡ None → Breaks a.last sheet at t → r ≡ Some t.at → Recorded a sheet at t r
+  nowhere : a.line ≡ None → (Breaks a.last sheet at t → ⊥) → r ≡ None → Recorded a sheet at t r
 
-pub recorded : (a : Tally) (sheet : List ℕ) (t : Token) (r : Bool) (l : Option ℕ) → Decides r (Breaks a.last sheet t) → l ≡ option_or a.line (then_some r t.at) → Recorded a sheet t l
-recorded a sheet t r l = go a.line r refl
+pub recorded : (a : Tally) (sheet : List ℕ) (at : ℕ) (t : Token) (r : Bool) (l : Option ℕ) → Decides r (Breaks a.last sheet at t) → l ≡ option_or a.line (then_some r t.at) → Recorded a sheet at t l
+recorded a sheet at t r l = go a.line r refl
   where
-    go : (x : Option ℕ) (y : Bool) → a.line ≡ x → Decides y (Breaks a.last sheet t) → l ≡ option_or x (then_some y t.at) → Recorded a sheet t l
+    go : (x : Option ℕ) (y : Bool) → a.line ≡ x → Decides y (Breaks a.last sheet at t) → l ≡ option_or x (then_some y t.at) → Recorded a sheet at t l
     go (Some q) y f d e = before q f e
     go None true f d e = here f (d.0 refl) e
     go None false f d e = nowhere f (λ h. false≢true (d.1 h)) e
@@ -46,18 +47,19 @@ further : {sheet : List ℕ} {s : Tok} {us : List Tok} {p : ℕ} → BrokenLine 
 further (broken_line t u n o f e) = broken_line t u (next_later n) o f e
 
 module _ (sheet : List ℕ) (at next : ℕ) (a : Tally) (t : Token) (was : Tallied sheet at a) (g : Given sheet at t next)
-    (over line : Option ℕ)
+    (count : ℕ) (over line : Option ℕ)
+    (more : count ≡ a.count + 1)
     (many : over ≡ option_or a.over (then_some (eqb a.count 4096) t.at))
-    (kept : Recorded a sheet t line)
+    (kept : Recorded a sheet at t line)
   where
     abbrev b : Tally
-    b = record { count = a.count + 1; over = over; line = line; last = Some t }
+    b = record { count = count; over = over; line = line; last = Some t }
 
     abbrev tok : Tok
     tok = tok_of t
 
     on : (at < next) × (next ≤ length sheet)
-    on = onward sheet at t next was.inside g
+    on = onward sheet at t next g
 
     -- its text is the token's
     worded : text sheet tok ≡ t.text.now
@@ -67,7 +69,7 @@ module _ (sheet : List ℕ) (at next : ℕ) (a : Tally) (t : Token) (was : Talli
     still_seen p s = grind arith
 
     -- a break at the token is seen
-    now_seen : Breaks a.last sheet t → Seen b t.at
+    now_seen : Breaks a.last sheet at t → Seen b t.at
     now_seen h = grind arith
 
     over_at : (tokens : List Tok) → nth tokens (a.count + 0) ≡ tok → OverAt tokens a.count a.over → OverAt tokens b.count over
@@ -85,16 +87,17 @@ module _ (sheet : List ℕ) (at next : ℕ) (a : Tally) (t : Token) (was : Talli
     left None us p x = x
     left (Some s) us p x = further x
 
-    lines : (o : Option Token) → IfSome o (λ s. text sheet (tok_of s) ≡ s.text.now) → (Breaks o sheet t → Seen b t.at) → (us : List Tok) (p : ℕ) →
+    lines : (o : Option Token) → IfSome o (λ s. text sheet (tok_of s) ≡ s.text.now) → EndsAt at o → (Breaks o sheet at t → Seen b t.at) → (us : List Tok) (p : ℕ) →
         BrokenLine sheet (joined o (tok ∷ us)) p → Seen b p ⊎ BrokenLine sheet (tok ∷ us) p
-    lines None k see us p x = inr x
-    lines (Some s) k see us p (broken_line _ _ next_here o f e) =
-        inl (subst (Seen b) (sym e) (see (⊎_elim (λ x. inl (sym k ∙ x)) (λ x. inr (sym worded ∙ x)) o, f)))
-    lines (Some s) k see us p (broken_line v u (next_later m) o f e) = inr (broken_line v u m o f e)
+    lines None k ends see us p x = inr x
+    lines (Some s) k ends see us p (broken_line _ _ next_here o f e) =
+        inl (subst (Seen b) (sym e) (see (⊎_elim (λ x. inl (sym k ∙ x)) (λ x. inr (sym worded ∙ x)) o, subst (λ n. FeedBetween sheet n t.at) ends f)))
+    lines (Some s) k ends see us p (broken_line v u (next_later m) o f e) = inr (broken_line v u m o f e)
 
-    at_token : (o : Option Token) → IfSome o (λ s. text sheet (tok_of s) ≡ s.text.now) → (us : List Tok) → Breaks o sheet t → BrokenLine sheet (joined o (tok ∷ us)) t.at
-    at_token None k us h = absurd h
-    at_token (Some s) k us h = broken_line (tok_of s) tok next_here (⊎_elim (λ x. inl (k ∙ x)) (λ x. inr (worded ∙ x)) h.0) h.1 refl
+    at_token : (o : Option Token) → IfSome o (λ s. text sheet (tok_of s) ≡ s.text.now) → EndsAt at o → (us : List Tok) → Breaks o sheet at t → BrokenLine sheet (joined o (tok ∷ us)) t.at
+    at_token None k ends us h = absurd h
+    at_token (Some s) k ends us h =
+        broken_line (tok_of s) tok next_here (⊎_elim (λ x. inl (k ∙ x)) (λ x. inr (worded ∙ x)) h.0) (subst (λ n. FeedBetween sheet n t.at) (sym ends) h.1) refl
 
     whole : (us : List Tok) (fin : Ending) → Whole sheet a (tok ∷ us) fin → Whole sheet b us fin
     whole us fin w = record {
@@ -103,14 +106,14 @@ module _ (sheet : List ℕ) (at next : ℕ) (a : Tally) (t : Token) (was : Talli
       long = omega (arith, w.long);
       same = λ j. let i : b.count + j ≡ a.count + suc j = omega arith in ap (nth w.tokens) i ∙ w.same (suc j);
       over = over_at w.tokens (w.same 0) w.over;
-      lines = λ p x. ⊎_elim (λ s. inl (still_seen p s)) (lines a.last was.worded now_seen us p) (w.lines p x);
+      lines = λ p x. ⊎_elim (λ s. inl (still_seen p s)) (lines a.last was.worded was.ends now_seen us p) (w.lines p x);
       seen = λ p e. seen p e kept;
       left = λ p x. w.left p (left a.last us p x);
     }
       where
-        seen : (p : ℕ) → line ≡ Some p → Recorded a sheet t line → BrokenLine sheet w.tokens p
+        seen : (p : ℕ) → line ≡ Some p → Recorded a sheet at t line → BrokenLine sheet w.tokens p
         seen p e (before q x f) = w.seen p (x ∙ ap Some (some_once f e))
-        seen p e (here x h f) = subst (BrokenLine sheet w.tokens) (some_once f e) (w.left t.at (at_token a.last was.worded us h))
+        seen p e (here x h f) = subst (BrokenLine sheet w.tokens) (some_once f e) (w.left t.at (at_token a.last was.worded was.ends us h))
         seen p e (nowhere x h f) = absurd (not_both f e)
 
     reads : (us : List Tok) (fin : Ending) → Lexes sheet next us fin → Lexes sheet at (tok ∷ us) fin
@@ -120,7 +123,6 @@ module _ (sheet : List ℕ) (at next : ℕ) (a : Tally) (t : Token) (was : Talli
 
     pub tallied : Tallied sheet next b
     tallied = record {
-      inside = on.1;
       few = omega (arith, on.0, was.few);
       ends = omega (arith, g.place, g.on);
       worded = worded;
@@ -130,9 +132,8 @@ module _ (sheet : List ℕ) (at next : ℕ) (a : Tally) (t : Token) (was : Talli
 
 pub tallied_none : (sheet : List ℕ) (a : Tally) → a.count ≡ 0 → a.over ≡ None → a.line ≡ None → a.last ≡ None → Tallied sheet 0 a
 tallied_none sheet a z v n l = record {
-  inside = omega arith;
   few = omega arith;
-  ends = subst (EndsIn 0) (sym l) tt;
+  ends = subst (EndsAt 0) (sym l) tt;
   worded = subst (λ o. IfSome o (λ t. text sheet (tok_of t) ≡ t.text.now)) (sym l) tt;
   early = λ p e. grind arith;
   rest = λ us fin x. record {
@@ -176,3 +177,8 @@ module _ (sheet : List ℕ) (at : ℕ) (a : Tally) (short : length sheet ≤ 163
 -- the tokens end in a refusal
 pub stopped_told : (sheet : List ℕ) (at : ℕ) (a : Tally) (e : Refusal) → length sheet ≤ 16384 → Tallied sheet at a → Stopped sheet at e → FirstFault (TokenFault sheet) e
 stopped_told sheet at a e short s f = search (rules, refused, stopped_first)
+
+-- no token is left
+pub all_counted : (s : Scanner) {after : Scanner} (o : Option Token) → is_some o ≡ false → Counts s (Ok o) after → Counted after × Finished after.reader.sheet.now after.reader.at
+all_counted s None e h = h
+all_counted s (Some t) e h = absurd (false≢true (sym e))

@@ -9,7 +9,8 @@ use Rattle.lexer.specs.declared.reasons.Reason.TheVariants.{LongSheet, LineFeed,
 use Rattle.lexer.specs.declared.refusal.Refusal.{Refusal}
 use Rattle.lexer.proofs.Unique.{lexes_once}
 
-stopped_turn : {sheet : List ℕ} {at p : ℕ} {ts : List Tok} {r : Reason} → Lexes sheet at ts (stopped r p) → turn r ≡ 3
+-- in which turn a token is refused
+pub stopped_turn : {sheet : List ℕ} {at p : ℕ} {ts : List Tok} {r : Reason} → Lexes sheet at ts (stopped r p) → turn r ≡ 3
 stopped_turn (refused g p (no_token h n)) = refl
 stopped_turn (refused g p (too_large t l)) = refl
 stopped_turn (token g n p t s l) = stopped_turn l

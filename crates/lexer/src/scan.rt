@@ -1,8 +1,8 @@
 // The rules on the tokens of a whole sheet.
-ghost use Rattle.std.specs.Prelude.{ℕ, ◌+◌, ◌<◌, ◌≤◌, List, length, Decides};
-ghost use Rattle.lexer.specs.Reading.{Given, Finished};
+ghost use Rattle.std.specs.Prelude.{◌≡◌, ℕ, ◌+◌, ◌≤◌, List, length, Decides};
+ghost use Rattle.lexer.specs.Reading.{Given, Finished, Reads};
 ghost use Rattle.lexer.specs.Scanning.{FeedBetween, Scans};
-ghost use Rattle.lexer.specs.Tallies.{EndsIn, Breaks, Tallied};
+ghost use Rattle.lexer.specs.Tallies.{Breaks, Tallied, Counted, Starts, Counts};
 
 use crate::read::{Reader, Token};
 use crate::reasons::Reason;
@@ -19,8 +19,8 @@ const RETURN: &[u8] = b"return";
 
 const ARROW: &[u8] = b"=>";
 
-// What a scan has seen.
-#[derive(Clone, Copy)]
+// What was seen of a sheet's tokens.
+#[derive(Clone, Copy, Default)]
 struct Tally<'a> {
     // how many tokens
     count: usize,
@@ -41,27 +41,24 @@ fn has_feed(sheet: &[u8], from: usize, to: usize) -> bool
 }
 
 impl<'a> Tally<'a> {
-    // Whether a line feed parts a token from the one before it, where none may.
-    fn breaks(self, sheet: &[u8], t: Token) -> bool
-        requires { EndsIn (length sheet.now) self.last }
-        ensures { Decides result (Breaks self.entry.last sheet.now t.entry) }
+    // Whether a line feed parts a token from the one before it, which ends at `from`, where none may.
+    fn breaks(self, sheet: &[u8], from: usize, t: Token) -> bool
+        ensures { Decides result (Breaks self.entry.last sheet.now from t.entry) }
     {
         self.last.is_some_and(|last| {
-            (last.text == RETURN || t.text == ARROW)
-                && has_feed(sheet, last.at + last.text.len(), t.at)
+            (last.text == RETURN || t.text == ARROW) && has_feed(sheet, from, t.at)
         })
     }
 
-    // One token more.
-    fn with(self, sheet: &[u8], t: Token<'a>) -> Tally<'a>
-        requires few { self.count < 16384 }
-        requires ends { EndsIn (length sheet.now) self.last }
-        ensures { (at next : ℕ) → Tallied sheet.now at self.entry → Given sheet.now at t.entry next → Tallied sheet.now next result }
+    // One token more; the tokens before it end at `from`. The count is exact, as a sheet that is not too long has no more
+    // tokens than bytes; of a longer one, nothing is said.
+    fn with(self, sheet: &[u8], from: usize, t: Token<'a>) -> Tally<'a>
+        ensures { (next : ℕ) → length sheet.now ≤ 16384 → Tallied sheet.now from self.entry → Given sheet.now from t.entry next → Tallied sheet.now next result × (result.count ≡ self.entry.count + 1) }
     {
         let many = self.count == TOKEN_LIMIT;
-        let broken = self.breaks(sheet, t);
+        let broken = self.breaks(sheet, from, t);
         Tally {
-            count: self.count + 1,
+            count: self.count.saturating_add(1),
             over: self.over.or(many.then_some(t.at)),
             line: self.line.or(broken.then_some(t.at)),
             last: Some(t),
@@ -82,23 +79,60 @@ impl<'a> Tally<'a> {
     }
 }
 
-// How many tokens a sheet has, or the first fault of those that its tokens can have.
+// A reader of a sheet, and what was seen of the tokens that it gave.
+#[derive(Drop)]
+pub struct Scanner<'a> {
+    reader: Reader<'a>,
+    tally: Tally<'a>,
+}
+
+impl<'a> Scanner<'a> {
+    // Before the first token of a sheet; refused where that is too long.
+    pub fn start(sheet: &'a [u8]) -> Result<Self, Refusal>
+        ensures { Starts sheet.now result }
+    {
+        if sheet.len() > SHEET_LIMIT {
+            return Err(Reason::LongSheet.at(SHEET_LIMIT));
+        }
+        Ok(Scanner {
+            reader: Reader { sheet, at: 0 },
+            tally: Tally::default(),
+        })
+    }
+
+    // How many tokens were given.
+    pub fn count(&self) -> usize
+        ensures { result ≡ self.now.tally.count }
+    {
+        self.tally.count
+    }
+
+    // The next token, which is then counted.
+    pub fn next(&mut self) -> Result<Option<Token<'a>>, Refusal>
+        ensures sheet { self.new.reader.sheet.now ≡ self.old.reader.sheet.now }
+        ensures reads { Reads self.old.reader.sheet.now self.old.reader.at result self.new.reader.at }
+        ensures counts { Counted self.old → Counts self.old result self.new }
+    {
+        let from = self.reader.at;
+        let next = self.reader.next()?;
+        if let Some(t) = next {
+            self.tally = self.tally.with(self.reader.sheet, from, t);
+        }
+        Ok(next)
+    }
+
+    // How many tokens the sheet has, or the first fault of those that its tokens can have: reads what is left.
+    pub fn rest(mut self) -> Result<usize, Refusal>
+        ensures { Counted self.entry → Scans self.entry.reader.sheet.now result }
+    {
+        while self.next()?.is_some() {}
+        self.tally.verdict()
+    }
+}
+
+// The same, of a sheet from its start.
 pub fn scan(sheet: &[u8]) -> Result<usize, Refusal>
     ensures { Scans sheet.now result }
 {
-    if sheet.len() > SHEET_LIMIT {
-        return Err(Reason::LongSheet.at(SHEET_LIMIT));
-    }
-    let mut reader = Reader { sheet, at: 0 };
-    // written out: of what `Tally::default()` gives, the borrow checker doesn't yet follow the loan past a `while let`
-    let mut tally = Tally {
-        count: 0,
-        over: None,
-        line: None,
-        last: None,
-    };
-    while let Some(t) = reader.next()? {
-        tally = tally.with(sheet, t);
-    }
-    tally.verdict()
+    Scanner::start(sheet)?.rest()
 }

@@ -14,43 +14,44 @@ use Rattle.parser.specs.declared.tree.TreeEntry.TheVariants.{Leaf as LeafEntry, 
 use Rattle.parser.specs.declared.tree.OperatorEntry.{OperatorEntry}
 use Rattle.parser.specs.declared.tree.OperatorEntry.TheVariants.{Infix as Waiting, Prefix as Applying, Otherwise, Bracket, Consequent}
 use Rattle.parser.specs.declared.builder.Position.TheVariants.{Start, Want, After}
-use Rattle.parser.specs.Syntax.{Expr, leaf}
+use Rattle.parser.specs.Syntax.{Expr, leaf, size, sizes}
 use Rattle.parser.specs.Grammar.{leaf_of, before, follow, left, level, atom}
 use Rattle.parser.specs.Table.{Tree, leaf_at, Listed, one_more, proper_leaf, proper_statement}
 use Rattle.parser.specs.Machine.{right_infix, right_prefix, otherwise, Part, right, bracket, consequent, State, start, want, after, wants, Ready, Same, Dead}
-use Rattle.parser.specs.Holds.{Operand, Progress, Within, Fits, Ends, AfterAll, Reduced, Kept, Frames, no_frame, an_infix, a_prefix, an_otherwise, a_bracket, a_consequent, Before, Ended, at_start, at_want, at_after, Next, Lower}
+use Rattle.parser.specs.Holds.{Operand, Progress, Within, Fits, Ends, AfterAll, Reduced, Kept, Frames, no_frame, an_infix, a_prefix, an_otherwise, a_bracket, a_consequent, spent, Before, Ended, at_start, at_want, at_after, Next, Lower}
 use Rattle.parser.proofs.Corner.{left_atom}
+use Rattle.parser.proofs.Counting.{sizes_more}
 use Rattle.parser.proofs.Turns.{never, wants_prefix, at_infix, at_question, at_leaf, at_open, at_prefix, at_close, at_end, at_colon, Closer, not_closed}
 use Rattle.parser.proofs.TreeTables.{kept_set, set_at, tree_kept, listed_kept, below, earlier, before_more}
 
 -- a token that is an expression by itself: one entry more
-pub step_leaf : {sheet : ℕ} {table : List TreeEntry} {fs : List OperatorEntry} {used : ℕ} {last : Option ℕ} {b : List Expr} {ps : List Part} (l : AnyLeaf) (t : Token) → t.symbol ≡ Leaf l → used < length table → Within sheet t → Before sheet table fs used last b ps → Next sheet (set table used (LeafEntry l t.place t.len)) fs (record { used = used + 1; last = last; position = After used }) want b ps t
+pub step_leaf : {sheet : ℕ} {table : List TreeEntry} {fs : List OperatorEntry} {used : ℕ} {last : Option ℕ} {b : List Expr} {ps : List Part} (l : AnyLeaf) (t : Token) → t.symbol ≡ Leaf l → used < length table → Within sheet t → Before sheet table fs used last b ps × (used ≡ sizes b + spent ps) → Next sheet (set table used (LeafEntry l t.place t.len)) fs (record { used = used + 1; last = last; position = After used }) want b ps t
 step_leaf {table = table} {used = used} {b = b} {ps = ps} l t is room within h = record {
   state = after atom (leaf l t.place t.len);
   statements = b;
   parts = ps;
   holds = record {
-    before = before_more (LeafEntry l t.place t.len) room (proper_leaf within.0 within.1) h;
-    stage = at_after (omega arith) (leaf_at (set_at used table (LeafEntry l t.place t.len) room));
+    before = before_more (LeafEntry l t.place t.len) room (proper_leaf within.0 within.1) h.0;
+    stage = at_after (omega arith) (leaf_at (set_at used table (LeafEntry l t.place t.len) room)) (omega (arith, h.1));
   };
   same = λ ts. at_leaf b ps l t ts is;
 }
 
 -- one part more, and then an operand is wanted
-pushed : {sheet : ℕ} {table : List TreeEntry} {gs hs : List OperatorEntry} {x : OperatorEntry} {used : ℕ} {last : Option ℕ} {b : List Expr} {ps qs : List Part} {s : State} (t : Token) (q : Part) → hs ≡ x ∷ gs → (Frames sheet table used gs ps → Frames sheet table used (x ∷ gs) (q ∷ ps)) → Ready (q ∷ ps) → Before sheet table gs used last b ps → ((ts : List Token) → Same s b qs (t ∷ ts) want b (q ∷ ps) ts) → Next sheet table hs (record { used = used; last = last; position = Want }) s b qs t
-pushed {sheet} {table} {used = used} {b = b} {ps = ps} t q held frame ready h same = record {
+pushed : {sheet : ℕ} {table : List TreeEntry} {gs hs : List OperatorEntry} {x : OperatorEntry} {used : ℕ} {last : Option ℕ} {b : List Expr} {ps qs : List Part} {s : State} (t : Token) (q : Part) → hs ≡ x ∷ gs → (Frames sheet table used gs ps → Frames sheet table used (x ∷ gs) (q ∷ ps)) → Ready (q ∷ ps) → Before sheet table gs used last b ps → used ≡ sizes b + spent (q ∷ ps) → ((ts : List Token) → Same s b qs (t ∷ ts) want b (q ∷ ps) ts) → Next sheet table hs (record { used = used; last = last; position = Want }) s b qs t
+pushed {sheet} {table} {used = used} {b = b} {ps = ps} t q held frame ready h n same = record {
   state = want;
   statements = b;
   parts = q ∷ ps;
   holds = record {
     before = record { frames = subst (λ f. Frames sheet table used f (q ∷ ps)) (sym held) (frame h.frames); ready = ready; listed = h.listed; low = h.low; proper = h.proper };
-    stage = at_want;
+    stage = at_want n;
   };
   same = same;
 }
 
-pub step_open : {sheet : ℕ} {table : List TreeEntry} {fs gs : List OperatorEntry} {used : ℕ} {last : Option ℕ} {b : List Expr} {ps : List Part} (t : Token) → t.symbol ≡ Open → gs ≡ Bracket ∷ fs → Before sheet table fs used last b ps → Next sheet table gs (record { used = used; last = last; position = Want }) want b ps t
-step_open {b = b} {ps = ps} t is held h = pushed t bracket held a_bracket h.ready h (λ ts. at_open b ps t ts is)
+pub step_open : {sheet : ℕ} {table : List TreeEntry} {fs gs : List OperatorEntry} {used : ℕ} {last : Option ℕ} {b : List Expr} {ps : List Part} (t : Token) → t.symbol ≡ Open → gs ≡ Bracket ∷ fs → Before sheet table fs used last b ps × (used ≡ sizes b + spent ps) → Next sheet table gs (record { used = used; last = last; position = Want }) want b ps t
+step_open {b = b} {ps = ps} t is held h = pushed t bracket held a_bracket h.0.ready h.0 h.1 (λ ts. at_open b ps t ts is)
 
 -- no token is an expression by itself unless its symbol says so
 pub no_leaf : (s : Symbol) → ((l : AnyLeaf) → s ≡ Leaf l → ⊥) → leaf_of s ≡ None
@@ -64,26 +65,26 @@ no_leaf Question f = refl
 no_leaf Colon f = refl
 no_leaf Semicolon f = refl
 
-pub step_prefix : {sheet : ℕ} {table : List TreeEntry} {fs gs : List OperatorEntry} {used : ℕ} {last : Option ℕ} {b : List Expr} {ps : List Part} (op : AnyPrefix) (t : Token) → Some op ≡ before t.symbol → leaf_of t.symbol ≡ None → Within sheet t → gs ≡ Applying op t.place ∷ fs → Before sheet table fs used last b ps → Next sheet table gs (record { used = used; last = last; position = Want }) want b ps t
+pub step_prefix : {sheet : ℕ} {table : List TreeEntry} {fs gs : List OperatorEntry} {used : ℕ} {last : Option ℕ} {b : List Expr} {ps : List Part} (op : AnyPrefix) (t : Token) → Some op ≡ before t.symbol → leaf_of t.symbol ≡ None → Within sheet t → gs ≡ Applying op t.place ∷ fs → Before sheet table fs used last b ps × (used ≡ sizes b + spent ps) → Next sheet table gs (record { used = used; last = last; position = Want }) want b ps t
 step_prefix {b = b} {ps = ps} op t is other within held h =
-    pushed t (right (right_prefix op t.place)) held (a_prefix within.0) (wants_prefix ps, h.ready) h (λ ts. at_prefix b ps op t ts (sym is) other)
+    pushed t (right (right_prefix op t.place)) held (a_prefix within.0) (wants_prefix ps, h.0.ready) h.0 h.1 (λ ts. at_prefix b ps op t ts (sym is) other)
 
 -- after an operand
 
 pub step_close : {sheet : ℕ} {table : List TreeEntry} {fs gs : List OperatorEntry} {o : Operand} {last : Option ℕ} {k : ℕ} {b : List Expr} {ps : List Part} {e : Expr} (t : Token) → t.symbol ≡ Close → fs ≡ Bracket ∷ gs → Ended sheet table fs o last k b ps e → Next sheet table gs (record { used = o.used; last = last; position = After o.at }) (after k e) b ps t
-step_close {sheet} {table} {fs} {gs} {o} {last} {k} {b} {ps} {e} t is held h = go (subst (λ f. Frames sheet table o.used f ps) held h.before.frames) h.before.ready
+step_close {sheet} {table} {fs} {gs} {o} {last} {k} {b} {ps} {e} t is held h = go (subst (λ f. Frames sheet table o.used f ps) held h.before.frames) h.before.ready h.exact
   where
-    go : {ps : List Part} → Frames sheet table o.used (Bracket ∷ gs) ps → Ready ps → Next sheet table gs (record { used = o.used; last = last; position = After o.at }) (after k e) b ps t
-    go (a_bracket {ps = ps} f) r = record {
+    go : {ps : List Part} → Frames sheet table o.used (Bracket ∷ gs) ps → Ready ps → o.used ≡ sizes b + (spent ps + size e) → Next sheet table gs (record { used = o.used; last = last; position = After o.at }) (after k e) b ps t
+    go (a_bracket {ps = ps} f) r n = record {
       state = after atom e;
       statements = b;
       parts = ps;
-      holds = record { before = record { frames = f; ready = r; listed = h.before.listed; low = h.before.low; proper = h.before.proper }; stage = at_after h.low h.tree };
+      holds = record { before = record { frames = f; ready = r; listed = h.before.listed; low = h.before.low; proper = h.before.proper }; stage = at_after h.low h.tree n };
       same = λ ts. at_close b ps k e t ts is;
     }
 
 pub step_end : {sheet : ℕ} {table : List TreeEntry} {fs gs : List OperatorEntry} {o : Operand} {last : Option ℕ} {k : ℕ} {b : List Expr} {ps : List Part} {e : Expr} (t : Token) → t.symbol ≡ Semicolon → fs ≡ [] → gs ≡ [] → o.used < length table → Ended sheet table fs o last k b ps e → Next sheet (set table o.used (Statement last o.at)) gs (record { used = o.used + 1; last = Some o.used; position = Start }) (after k e) b ps t
-step_end {sheet} {table} {fs} {gs} {o} {last} {k} {b} {ps} {e} t is held left room h = go (subst (λ f. Frames sheet table o.used f ps) held h.before.frames)
+step_end {sheet} {table} {fs} {gs} {o} {last} {k} {b} {ps} {e} t is held left room h = go (subst (λ f. Frames sheet table o.used f ps) held h.before.frames) h.exact
   where
     kept : Kept o.used table (set table o.used (Statement last o.at))
     kept = kept_set o.used table (Statement last o.at)
@@ -94,8 +95,8 @@ step_end {sheet} {table} {fs} {gs} {o} {last} {k} {b} {ps} {e} t is held left ro
     tree : Tree (set table o.used (Statement last o.at)) o.at e
     tree = tree_kept kept h.low h.tree
 
-    go : {ps : List Part} → Frames sheet table o.used [] ps → Next sheet (set table o.used (Statement last o.at)) gs (record { used = o.used + 1; last = Some o.used; position = Start }) (after k e) b ps t
-    go no_frame =
+    go : {ps : List Part} → Frames sheet table o.used [] ps → o.used ≡ sizes b + (spent ps + size e) → Next sheet (set table o.used (Statement last o.at)) gs (record { used = o.used + 1; last = Some o.used; position = Start }) (after k e) b ps t
+    go no_frame n =
         let more = before_more {fs = []} {ps = []} (Statement last o.at) room (proper_statement (earlier _ h.before.low listed) (below h.low tree)) (record { frames = no_frame; ready = tt; listed = h.before.listed; low = h.before.low; proper = h.before.proper }) in
         record {
           state = start;
@@ -109,7 +110,7 @@ step_end {sheet} {table} {fs} {gs} {o} {last} {k} {b} {ps} {e} t is held left ro
               low = omega arith;
               proper = more.proper;
             };
-            stage = at_start;
+            stage = at_start (omega (arith, sizes_more b e));
           };
           same = λ ts. at_end b k e t ts is;
         }
@@ -132,11 +133,11 @@ not_shut {sheet} {table} {fs} {gs} {used} s other held ps f = go (subst (λ f. F
 
 -- the branches of a choice
 pub step_colon : {sheet : ℕ} {table : List TreeEntry} {fs gs hs : List OperatorEntry} {l : ℕ} {o : Operand} {last : Option ℕ} {k : ℕ} {b : List Expr} {ps : List Part} {e : Expr} (t : Token) → t.symbol ≡ Colon → fs ≡ Consequent l ∷ gs → hs ≡ Otherwise l o.at ∷ gs → Ended sheet table fs o last k b ps e → Next sheet table hs (record { used = o.used; last = last; position = Want }) (after k e) b ps t
-step_colon {sheet} {table} {fs} {gs} {hs} {l} {o} {last} {k} {b} {ps} {e = e} t is top held h = go (subst (λ f. Frames sheet table o.used f ps) top h.before.frames) h.before.ready
+step_colon {sheet} {table} {fs} {gs} {hs} {l} {o} {last} {k} {b} {ps} {e = e} t is top held h = go (subst (λ f. Frames sheet table o.used f ps) top h.before.frames) h.before.ready h.exact
   where
-    go : {ps : List Part} → Frames sheet table o.used (Consequent l ∷ gs) ps → Ready ps → Next sheet table hs (record { used = o.used; last = last; position = Want }) (after k e) b ps t
-    go (a_consequent {ps = ps} {a = a} p s fr) r =
-        pushed t (right (otherwise a e)) held (an_otherwise p h.low s h.tree) r (record { frames = fr; ready = r.1; listed = h.before.listed; low = h.before.low; proper = h.before.proper }) (λ ts. at_colon b ps a k e t ts is)
+    go : {ps : List Part} → Frames sheet table o.used (Consequent l ∷ gs) ps → Ready ps → o.used ≡ sizes b + (spent ps + size e) → Next sheet table hs (record { used = o.used; last = last; position = Want }) (after k e) b ps t
+    go (a_consequent {ps = ps} {a = a} p s fr) r n =
+        pushed t (right (otherwise a e)) held (an_otherwise p h.low s h.tree) r (record { frames = fr; ready = r.1; listed = h.before.listed; low = h.before.low; proper = h.before.proper }) (omega arith) (λ ts. at_colon b ps a k e t ts is)
 
 -- a token that goes on, or the end of an operand: what ends with the operand is completed first
 
@@ -182,12 +183,12 @@ module _ {sheet : ℕ} {table : List TreeEntry} {gs hs : List OperatorEntry} {o 
   pub step_infix : (f : Follow) (op : Operator) → f ≡ Infix op → hs ≡ Waiting op o.at ∷ gs → follow t.symbol ≡ Some f → wants ps ≤ level f → left f ≤ k → Next sheet table hs (record { used = o.used; last = last; position = Want }) (after k e) b ps t
   step_infix f op is held goes low high =
       let low' = subst (λ g. wants ps ≤ level g) is low in
-      pushed t (right (right_infix op e)) held (an_infix h.low h.tree) (low', h.before.ready) h.before (λ ts. at_infix b ps k e t op ts (goes ∙ ap Some is) low' (subst (λ g. left g ≤ k) is high))
+      pushed t (right (right_infix op e)) held (an_infix h.low h.tree) (low', h.before.ready) h.before (omega (arith, h.exact)) (λ ts. at_infix b ps k e t op ts (goes ∙ ap Some is) low' (subst (λ g. left g ≤ k) is high))
 
   pub step_question : (f : Follow) → f ≡ Choice → hs ≡ Consequent o.at ∷ gs → follow t.symbol ≡ Some f → wants ps ≤ level f → left f ≤ k → Next sheet table hs (record { used = o.used; last = last; position = Want }) (after k e) b ps t
   step_question f is held goes low high =
       let low' = subst (λ g. wants ps ≤ level g) is low in
-      pushed t (consequent e) held (a_consequent h.low h.tree) (low', h.before.ready) h.before (λ ts. at_question b ps k e t ts (goes ∙ ap Some is) low' (subst (λ g. left g ≤ k) is high))
+      pushed t (consequent e) held (a_consequent h.low h.tree) (low', h.before.ready) h.before (omega (arith, h.exact)) (λ ts. at_question b ps k e t ts (goes ∙ ap Some is) low' (subst (λ g. left g ≤ k) is high))
 
 -- the turn of what is left after the reductions is the turn of the whole
 via_next : {sheet : ℕ} {new : List TreeEntry} {gs : List OperatorEntry} {o : Operand} {last : Option ℕ} {k : ℕ} {e : Expr} {ps : List Part} {t : Token} {table : List TreeEntry} {fs : List OperatorEntry} {p : Progress} {b : List Expr} (a : AfterAll sheet new gs o last k b ps e t) → Next sheet table fs p (after a.tight a.tree) b a.parts t → Next sheet table fs p (after k e) b ps t

@@ -3,9 +3,10 @@ use Rattle.std.proofs.Common.{◌≡◌, ℕ, ◌+◌, ◌<◌, ◌≤◌, List,
 use Rattle.std.proofs.lemmas.List.{map-append}
 use Rattle.lexer.specs.Tokens.{TokenAt}
 use Rattle.lexer.specs.Sizes.{Small}
-use Rattle.lexer.specs.Reading.{Lexes, done, refused, token, finished, Given, Stopped, Finished}
+use Rattle.lexer.specs.Reading.{Lexes, done, token, finished, Given, Finished}
 use Rattle.lexer.specs.Scanning.{Tok}
-use Rattle.lexer.specs.declared.refusal.Refusal.{Refusal}
+use Rattle.lexer.specs.Tallies.{Counted}
+use Rattle.lexer.specs.declared.scan.Scanner.{Scanner}
 use Rattle.lexer.specs.declared.read.Token.{Token as Text}
 use Rattle.lexer.proofs.Firsts.{token_some}
 use Rattle.lexer.proofs.Unique.{gap_once, lexes_once}
@@ -58,75 +59,77 @@ module _ (sheet : List ℕ) (at next : ℕ) (t : Text) (g : Given sheet at t nex
       e
       ∙ ap (λ b. record { symbol = symbol_of t.kind b; place = t.at; len = length t.text.now }) (g.text ∙ ap (λ i. take (length t.text.now) (drop i sheet)) (sym g.place))
 
--- the sheet's tokens ls are those before the place, and then what is left from there on
-pub record Along (sheet : List ℕ) (ls : List Tok) (at : ℕ) (table : List TreeEntry) (fs : List OperatorEntry) (p : Progress) : Type 0 where
+-- what a step of a scanner gave: a token, and after it one token more is counted
+pub record Stepped (sheet : List ℕ) (s : Scanner) (t : Text) (after : Scanner) : Type 0 where
+  pub given : Given sheet s.reader.at t after.reader.at
+  pub same : after.reader.sheet.now ≡ sheet
+  pub counted : Counted after
+  pub more : after.tally.count ≡ s.tally.count + 1
+
+-- the sheet's tokens ls are those that the scanner has counted, and then what is left
+pub record Along (sheet : List ℕ) (ls : List Tok) (s : Scanner) (table : List TreeEntry) (fs : List OperatorEntry) (p : Progress) : Type 0 where
   pub before : List Tok
   pub rest : List Tok
   pub whole : ls ≡ before ++ rest
-  pub lexes : Lexes sheet at rest finished
+  pub lexes : Lexes sheet s.reader.at rest finished
+  pub count : length before ≡ s.tally.count
   pub sofar : Sofar (length sheet) (tokens sheet before) table fs p
-  pub few : p.used + length fs ≤ length before
 
-module _ {sheet : List ℕ} {ls : List Tok} {at next : ℕ} {table : List TreeEntry} {fs : List OperatorEntry} {p : Progress} (t : Text) (g : Given sheet at t next) (x : Token) (is : x ≡ record { symbol = symbol_of t.kind t.text.now; place = t.at; len = length t.text.now }) (h : Along sheet ls at table fs p) where
-  on : (us : List Tok) × (h.rest ≡ found t ∷ us) × Lexes sheet next us finished
-  on = advance sheet at next t g h.lexes
+module _ {sheet : List ℕ} {ls : List Tok} {s after : Scanner} {table : List TreeEntry} {fs : List OperatorEntry} {p : Progress} (t : Text) (d : Stepped sheet s t after) (h : Along sheet ls s table fs p) where
+  on : (us : List Tok) × (h.rest ≡ found t ∷ us) × Lexes sheet after.reader.at us finished
+  on = advance sheet s.reader.at after.reader.at t d.given h.lexes
 
-  -- there is a token more than are read
-  pub not_all : p.used + length fs < length ls
-  not_all = omega (arith, h.few, ap length h.whole, length-append h.before h.rest, ap length on.1)
+  -- no more are counted than there are
+  pub not_over : after.tally.count ≤ length ls
+  not_over = omega (arith, h.count, d.more, ap length h.whole, length-append h.before h.rest, ap length on.1)
 
-  pub lies_within : Within (length sheet) x
-  lies_within = within sheet at next t g x.place x.len (ap (λ y. y.place) is) (ap (λ y. y.len) is)
+  -- as the grammar has it
+  module _ (x : Token) (is : x ≡ record { symbol = symbol_of t.kind t.text.now; place = t.at; len = length t.text.now }) where
+    pub lies_within : Within (length sheet) x
+    lies_within = within sheet s.reader.at after.reader.at t d.given x.place x.len (ap (λ y. y.place) is) (ap (λ y. y.len) is)
 
-  pub along_more : {table' : List TreeEntry} {fs' : List OperatorEntry} {q : Progress} → Next (length sheet) table' fs' q h.sofar.state h.sofar.statements h.sofar.parts x → q.used + length fs' ≤ p.used + length fs + 1 → Along sheet ls next table' fs' q
-  along_more {table'} {fs'} {q} n few = record {
-    before = h.before ++ (found t ∷ []);
-    rest = on.0;
-    whole = h.whole ∙ (ap (λ r. h.before ++ r) on.1 ∙ sym (append_assoc h.before (found t ∷ []) on.0));
-    lexes = on.2;
-    sofar = subst (λ ts. Sofar (length sheet) ts table' fs' q)
-        (ap (λ y. tokens sheet h.before ++ (y ∷ [])) (same_token sheet at next t g x is) ∙ sym (map-append (token_of sheet) h.before (found t ∷ [])))
-        (sofar_more (length sheet) (tokens sheet h.before) x h.sofar n);
-    few = omega (arith, few, h.few, length-append h.before (found t ∷ []));
-  }
+    same : x ≡ token_of sheet (found t)
+    same = same_token sheet s.reader.at after.reader.at t d.given x is
 
-  pub refused_here : Lexes sheet 0 ls finished → Dead h.sofar.state h.sofar.statements h.sofar.parts x → NotProgram sheet t.at
-  refused_here l dead =
-      let split : tokens sheet ls ≡ tokens sheet h.before ++ (x ∷ tokens sheet on.0) =
-      ap (tokens sheet) (h.whole ∙ ap (λ r. h.before ++ r) on.1) ∙ (map-append (token_of sheet) h.before (found t ∷ on.0) ∙ ap (λ y. tokens sheet h.before ++ (y ∷ tokens sheet on.0)) (sym (same_token sheet at next t g x is))) in
-      let none : Begins (tokens sheet h.before ++ (x ∷ [])) → ⊥ = no_start (length sheet) (tokens sheet h.before) x h.sofar dead in
-      record {
-        lexed = ls;
-        lexes = l;
-        none = λ ss y. none (tokens sheet on.0, ss, subst (λ ts. Program ts ss) (split ∙ sym (append_assoc (tokens sheet h.before) (x ∷ []) (tokens sheet on.0))) y);
-        place = subst (BreaksOff sheet (tokens sheet ls)) (ap (λ y. y.place) is) (at_token (tokens sheet h.before) x (tokens sheet on.0) split none);
-      }
+    pub along_more : {table' : List TreeEntry} {fs' : List OperatorEntry} {q : Progress} → Next (length sheet) table' fs' q h.sofar.state h.sofar.statements h.sofar.parts x → Along sheet ls after table' fs' q
+    along_more {table'} {fs'} {q} n = record {
+      before = h.before ++ (found t ∷ []);
+      rest = on.0;
+      whole = h.whole ∙ (ap (λ r. h.before ++ r) on.1 ∙ sym (append_assoc h.before (found t ∷ []) on.0));
+      lexes = on.2;
+      count = omega (arith, d.more, h.count, length-append h.before (found t ∷ []));
+      sofar = subst (λ ts. Sofar (length sheet) ts table' fs' q)
+          (ap (λ y. tokens sheet h.before ++ (y ∷ [])) same ∙ sym (map-append (token_of sheet) h.before (found t ∷ [])))
+          (sofar_more (length sheet) (tokens sheet h.before) x h.sofar n);
+    }
 
--- nothing is left
-pub all_read : {sheet : List ℕ} {ls : List Tok} {at : ℕ} {table : List TreeEntry} {fs : List OperatorEntry} {p : Progress} → Finished sheet at → (h : Along sheet ls at table fs p) → h.before ≡ ls
-all_read {sheet} {ls} {at} f h =
-    let end = (lexes_once sheet at _ _ finished finished h.lexes (done f.gap f.past f.all)).0 in
-    sym (h.whole ∙ (ap (λ r. h.before ++ r) end ∙ append-nil h.before))
+    pub refused_here : Lexes sheet 0 ls finished → Dead h.sofar.state h.sofar.statements h.sofar.parts x → NotProgram sheet t.at
+    refused_here l dead =
+        let split : tokens sheet ls ≡ tokens sheet h.before ++ (x ∷ tokens sheet on.0) =
+        ap (tokens sheet) (h.whole ∙ ap (λ r. h.before ++ r) on.1) ∙ (map-append (token_of sheet) h.before (found t ∷ on.0) ∙ ap (λ y. tokens sheet h.before ++ (y ∷ tokens sheet on.0)) (sym same)) in
+        let none : Begins (tokens sheet h.before ++ (x ∷ [])) → ⊥ = no_start (length sheet) (tokens sheet h.before) x h.sofar dead in
+        record {
+          lexed = ls;
+          lexes = l;
+          none = λ ss y. none (tokens sheet on.0, ss, subst (λ ts. Program ts ss) (split ∙ sym (append_assoc (tokens sheet h.before) (x ∷ []) (tokens sheet on.0))) y);
+          place = subst (BreaksOff sheet (tokens sheet ls)) (ap (λ y. y.place) is) (at_token (tokens sheet h.before) x (tokens sheet on.0) split none);
+        }
 
--- no token is refused
-pub not_stopped : {A : Type 0} {sheet : List ℕ} {ls : List Tok} {at : ℕ} {table : List TreeEntry} {fs : List OperatorEntry} {p : Progress} (e : Refusal) → Stopped sheet at e → Along sheet ls at table fs p → A
-not_stopped {sheet = sheet} {at = at} e s h =
-    let end = (lexes_once sheet at _ _ finished _ h.lexes (refused s.gap s.past s.why)).1 in
-    let z : ◌≡◌ {A = ℕ} 0 1 = cc in
-    absurd (omega arith)
-
-pub along_none : (sheet : List ℕ) (ls : List Tok) (b : Builder) → IsEmpty b → Lexes sheet 0 ls finished → Along sheet ls 0 b.tree.now (held b.parts) (progress b Start)
-along_none sheet ls b e l =
+pub along_none : {sheet : List ℕ} {ls : List Tok} {s : Scanner} (b : Builder) → s.reader.at ≡ 0 → s.tally.count ≡ 0 → IsEmpty b → Lexes sheet 0 ls finished → Along sheet ls s b.tree.now (held b.parts) (progress b Start)
+along_none {sheet} {ls} b a z e l =
     let none : progress b Start ≡ record { used = 0; last = None; position = Start } = let u = e.used in let s = e.last in cc in
     record {
       before = [];
       rest = ls;
       whole = refl;
-      lexes = l;
+      lexes = subst (λ i. Lexes sheet i ls finished) (sym a) l;
+      count = sym z;
       sofar = subst (λ p. Sofar (length sheet) [] b.tree.now (held b.parts) p) (sym none) (sofar_none (length sheet) b.tree.now (held b.parts) e.parts);
-      few = omega (arith, ap length e.parts, e.used);
     }
 
--- what holds once all the tokens are read
-pub all_along : {A : Type 0} {sheet : List ℕ} {ls : List Tok} {at : ℕ} {table : List TreeEntry} {fs : List OperatorEntry} {p : Progress} (h : Along sheet ls at table fs p) → h.before ≡ ls → (p.used ≤ length ls → Sofar (length sheet) (tokens sheet ls) table fs p → A) → A
-all_along {sheet = sheet} {table = table} {fs} {p} h all k = k (omega (arith, h.few, ap length all)) (subst (λ ts. Sofar (length sheet) (tokens sheet ts) table fs p) all h.sofar)
+-- nothing is left
+pub all_along : {sheet : List ℕ} {ls : List Tok} {s : Scanner} {table : List TreeEntry} {fs : List OperatorEntry} {p : Progress} → Finished sheet s.reader.at → Along sheet ls s table fs p → (length ls ≡ s.tally.count) × Sofar (length sheet) (tokens sheet ls) table fs p
+all_along {sheet} {ls} {s} {table} {fs} {p} f h =
+    let end = (lexes_once sheet s.reader.at _ _ finished finished h.lexes (done f.gap f.past f.all)).0 in
+    let all = sym (h.whole ∙ (ap (λ r. h.before ++ r) end ∙ append-nil h.before)) in
+    (sym (ap length all) ∙ h.count, subst (λ ts. Sofar (length sheet) (tokens sheet ts) table fs p) all h.sofar)

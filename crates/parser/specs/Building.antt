@@ -5,9 +5,9 @@ use Rattle.parser.specs.declared.symbols.Token.{Token}
 use Rattle.parser.specs.declared.tree.TreeEntry.{TreeEntry}
 use Rattle.parser.specs.declared.builder.Builder.{Builder}
 use Rattle.parser.specs.declared.builder.Position.{Position}
-use Rattle.parser.specs.Syntax.{Expr}
+use Rattle.parser.specs.Syntax.{Expr, sizes}
 use Rattle.parser.specs.Machine.{Part, State}
-use Rattle.parser.specs.Holds.{Operand, Progress, Before, Ended, Reduced, Lower, Holds, Next}
+use Rattle.parser.specs.Holds.{Operand, Progress, spent, Before, Ended, Reduced, Lower, Holds, Next}
 
 -- no entry is in use
 pub record IsEmpty (b : Builder) : Type 0 where
@@ -42,9 +42,9 @@ operand b at = record { at = at; used = b.used }
 abbrev pub progress : Builder → Position → Progress
 progress b q = record { used = b.used; last = b.last; position = q }
 
--- the statements ss and the open parts ps are held, and an operand is to come
+-- the statements ss and the open parts ps are held, in just the entries in use, and an operand is to come
 abbrev pub WantsOperand : ℕ → Builder → List Expr → List Part → Type 0
-WantsOperand sheet b ss ps = Before sheet b.tree.now (held b.parts) b.used b.last ss ps
+WantsOperand sheet b ss ps = Before sheet b.tree.now (held b.parts) b.used b.last ss ps × (b.used ≡ sizes ss + spent ps)
 
 -- the same, and the operand e has come, which stands at an index and binds as tightly as k
 abbrev pub HasOperand : ℕ → Builder → ℕ → ℕ → List Expr → List Part → Expr → Type 0

@@ -10,7 +10,7 @@ use Rattle.parser.specs.declared.tree.OperatorEntry.{OperatorEntry}
 use Rattle.parser.specs.declared.tree.OperatorEntry.TheVariants.{Blank, Infix, Prefix, Bracket, Consequent, Otherwise, Operand as Finished}
 use Rattle.parser.specs.declared.builder.Position.{Position}
 use Rattle.parser.specs.declared.builder.Position.TheVariants.{Start, Want, After}
-use Rattle.parser.specs.Syntax.{Expr}
+use Rattle.parser.specs.Syntax.{Expr, size, sizes}
 use Rattle.parser.specs.Grammar.{follow, left, level, binding, prefix, atom, Program}
 use Rattle.parser.specs.Table.{tree_at, Tree, Listed, AllProper}
 use Rattle.parser.specs.Machine.{right_infix, right_prefix, otherwise, Part, right, bracket, consequent, State, start, want, after, wants, Completes, Ready, Same}
@@ -44,6 +44,15 @@ pub data Frames (sheet : ℕ) (table : List TreeEntry) (n : ℕ) : List Operator
   an_otherwise : {fs : List OperatorEntry} {ps : List Part} {i j : ℕ} {a b : Expr} → i < n → j < n → Tree table i a → Tree table j b → Frames sheet table n fs ps → Frames sheet table n (Otherwise i j ∷ fs) (right (otherwise a b) ∷ ps)
   a_consequent : {fs : List OperatorEntry} {ps : List Part} {i : ℕ} {a : Expr} → i < n → Tree table i a → Frames sheet table n fs ps → Frames sheet table n (Consequent i ∷ fs) (consequent a ∷ ps)
 
+-- how many entries the finished expressions in the open parts take
+abbrev pub spent : List Part → ℕ
+spent [] = 0
+spent (right (right_infix op a) ∷ ps) = size a + spent ps
+spent (right (right_prefix op p) ∷ ps) = spent ps
+spent (right (otherwise a b) ∷ ps) = size a + size b + spent ps
+spent (bracket ∷ ps) = spent ps
+spent (consequent a ∷ ps) = size a + spent ps
+
 -- the table and the stack hold the statements b and the open parts ps
 pub record Before (sheet : ℕ) (table : List TreeEntry) (fs : List OperatorEntry) (used : ℕ) (last : Option ℕ) (b : List Expr) (ps : List Part) : Type 0 where
   pub frames : Frames sheet table used fs ps
@@ -58,6 +67,7 @@ pub record Ended (sheet : ℕ) (table : List TreeEntry) (fs : List OperatorEntry
   pub fits : wants ps ≤ k
   pub low : o.at < o.used
   pub tree : Tree table o.at e
+  pub exact : o.used ≡ sizes b + (spent ps + size e)
 
 -- an expression that binds as tightly as k can be followed by t
 abbrev pub Fits : Token → ℕ → Type 0
@@ -104,15 +114,15 @@ abbrev pub Lower : ℕ → List OperatorEntry → Type 0
 Lower least [] = Unit {0}
 Lower least (f ∷ fs) = (awaits f < least) ⊎ ((i : ℕ) → completion f i ≡ None)
 
--- where the reader is
-pub data Stage (table : List TreeEntry) (n : ℕ) : Position → State → List Part → Type 0 where
-  at_start : Stage table n Start start []
-  at_want : {ps : List Part} → Stage table n Want want ps
-  at_after : {ps : List Part} {i : ℕ} {e : Expr} → i < n → Tree table i e → Stage table n (After i) (after atom e) ps
+-- where the reader is, and that the n entries in use are those of the statements b and of the expressions after them
+pub data Stage (table : List TreeEntry) (n : ℕ) (b : List Expr) : Position → State → List Part → Type 0 where
+  at_start : n ≡ sizes b → Stage table n b Start start []
+  at_want : {ps : List Part} → n ≡ sizes b + spent ps → Stage table n b Want want ps
+  at_after : {ps : List Part} {i : ℕ} {e : Expr} → i < n → Tree table i e → n ≡ sizes b + (spent ps + size e) → Stage table n b (After i) (after atom e) ps
 
 pub record Holds (sheet : ℕ) (table : List TreeEntry) (fs : List OperatorEntry) (p : Progress) (s : State) (b : List Expr) (ps : List Part) : Type 0 where
   pub before : Before sheet table fs p.used p.last b ps
-  pub stage : Stage table p.used p.position s ps
+  pub stage : Stage table p.used b p.position s ps
 
 -- the configuration that t leads to, and it is held
 pub record Next (sheet : ℕ) (table : List TreeEntry) (fs : List OperatorEntry) (p : Progress) (s : State) (b : List Expr) (ps : List Part) (t : Token) : Type 0 where

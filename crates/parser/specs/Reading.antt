@@ -27,13 +27,14 @@ pub record Written (sheet : List ℕ) (ss : List Expr) : Type 0 where
   pub lexes : Lexes sheet 0 lexed finished
   pub program : Program (tokens sheet lexed) ss
 
--- the sheet is the program ss and no other, and the first entries of the table, as many as are used, are that program
+-- the sheet is the program ss and no other, and the first entries of the table, as many as are used, are that program; as
+-- many entries are in use as the program has expressions and statements
 pub record Represents (sheet : List ℕ) (tree : List TreeEntry) (read : Read) (ss : List Expr) : Type 0 where
   pub written : Written sheet ss
   pub only : (other : List Expr) → Written sheet other → other ≡ ss
   pub listed : Listed tree read.last ss
   pub low : IfSome read.last (λ i. i < read.used)
-  pub few : read.used ≤ 4096
+  pub exact : read.used ≡ sizes ss
   pub proper : AllProper (length sheet) tree read.used
   pub small : sizes ss ≤ 4096
 

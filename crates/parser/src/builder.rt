@@ -10,7 +10,7 @@ ghost use Rattle.parser.specs.Holds.{Within, Lower, Sofar};
 ghost use Rattle.parser.specs.declared.builder.Position.TheVariants.{Want};
 ghost use Rattle.parser.specs.Building.{IsEmpty, HasRoom, Adds, Grown, Completes, WantsOperand, HasOperand, Stands, Turns, Lowest, progress};
 ghost use Rattle.parser.specs.Reading.{tokens};
-ghost use Rattle.parser.specs.Parsing.{Parses};
+ghost use Rattle.parser.specs.Parsing.{Builds};
 ghost use Rattle.parser.specs.declared.symbols.Token.{Token as AnyToken};
 
 use crate::reading::Read;
@@ -203,7 +203,7 @@ impl<'a> Builder<'a> {
 
     // The reading, once all tokens are taken; `end` is the sheet's length.
     pub fn finish(&self, position: Position, end: usize) -> Result<Read, Refusal>
-        ensures { (sheet : List ℕ) (ls : List Tok) → end ≡ length sheet → Lexes sheet 0 ls finished → length ls ≤ 4096 → self.now.used ≤ length ls → Sofar (length sheet) (tokens sheet ls) self.now.tree.now (held self.now.parts) (progress self.now position) → Parses sheet self.now.tree.now result }
+        ensures { (sheet : List ℕ) (ls : List Tok) → end ≡ length sheet → Lexes sheet 0 ls finished → length ls ≤ 4096 → self.now.used ≤ length ls → Sofar (length sheet) (tokens sheet ls) self.now.tree.now (held self.now.parts) (progress self.now position) → Builds sheet self.now.tree.now result }
     {
         match position {
             Position::Start => Ok(Read::new(self.used, self.last)),

@@ -18,7 +18,6 @@ use crate::tables::Tables;
 use crate::tree::TreeEntry;
 use lexer::reasons::Reason;
 use lexer::refusal::Refusal;
-use lexer::scan::scan;
 
 // Reads a sheet into the tree table. The other tables are those that a check of the sheet takes, and what they hold after
 // is free. Each call that takes them says that they come back, as long as they were (`lent`): of loans in a struct that
@@ -35,6 +34,5 @@ pub fn read(
     if tables.is_short(tree.len()) {
         return Err(Reason::ShortTable.at(0));
     }
-    scan(sheet)?;
     parse(sheet, tree, tables.operators)
 }

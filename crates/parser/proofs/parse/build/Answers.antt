@@ -1,65 +1,80 @@
-use Rattle.std.proofs.Common.{◌≡◌, Some, None, refl, ◌∙◌, arith}
-use Rattle.std.proofs.lemmas.Option.{MatchOption-at_none, MatchOption-at_some}
-use Rattle.std.proofs.lemmas.Result.{err_from_is_err_and}
-use Rattle.lexer.specs.declared.reasons.Reason.TheVariants.{NoProgram}
-use Rattle.lexer.proofs.Steps.{onward, given, finished_at, stopped_at}
-use Rattle.parser.proofs.Lexing.{not_all, lies_within, along_none, along_more, refused_here, all_read, all_along, not_stopped}
+use Rattle.std.proofs.Common.{length, None, Ok, refl, ap, ◌∙◌, subst, arith}
+use Rattle.lexer.specs.Scanning.{Clean}
+use Rattle.lexer.specs.Tallies.{Counts}
+use Rattle.lexer.proofs.Steps.{onward, given, finished_at}
+use Rattle.parser.specs.Parsing.{tokens_clean}
+use Rattle.parser.proofs.Faults.{token_told}
+use Rattle.parser.proofs.Lexing.{Stepped, not_over, lies_within, along_none, along_more, refused_here, all_along}
 use Rattle.parser.proofs.parse.build.Goals as goal
+use Rattle.parser.proofs.parse.build.Goals.{In-Some, In_default}
 
-pub loop-t-init : goal.loop-t-init
-loop-t-init c = (refl, omega arith, refl, refl, refl, λ ls l. along_none _ ls _ c.requires.empty l)
+pub returns-in_err-scanner-clause-parses : goal.returns-in_err-scanner-clause-parses
+returns-in_err-scanner-clause-parses c = token_told _ c.from_residual.ensures.1 refl c.in_err-scanner.ensures
 
-pub step-requires : goal.step-requires
-step-requires c =
-    let clean = c.requires.clean.1 in
-    let g = given c.loop-t.invariant.0 _ _ c.in-Some.is c.in_ok-t.ensures.reads in
-    let more = not_all _ g _ c.into.ensures (c.loop-t.invariant.5 clean.tokens clean.lexes) in
-    record {
-      in_tree = omega (arith, more, clean.count, clean.few, c.requires.entries, c.loop-t.invariant.3);
-      in_parts = omega (arith, more, clean.count, clean.few, c.requires.places, c.loop-t.invariant.4);
-    }
+pub returns-in_err-t-clause-parses : goal.returns-in_err-t-clause-parses
+returns-in_err-t-clause-parses c = token_told _ c.from_residual-in_err-t.ensures.1 c.loop-t.invariant.0 (c.in_err-t.ensures.counts c.loop-t.invariant.1)
+
+-- what a step of the scanner gave
+stepped : (c : In-Some) → Stepped c.args.sheet.now c.loop-t.scanner c.in-Some.t c.next.new.self
+stepped c =
+    let told = c.in_ok-t.ensures in
+    let counts = subst (λ o. Counts c.loop-t.scanner (Ok o) c.next.new.self) c.in-Some.is (told.counts c.loop-t.invariant.1) in
+    record { given = given c.loop-t.invariant.0 _ _ c.in-Some.is told.reads; same = told.sheet ∙ c.loop-t.invariant.0; counted = counts.0; more = counts.1 }
+
+pub returns-then-count-gt-TOKEN_LIMIT-clause-parses : goal.returns-then-count-gt-TOKEN_LIMIT-clause-parses
+returns-then-count-gt-TOKEN_LIMIT-clause-parses c =
+    let d = stepped (goal.at.returns-then-count-gt-TOKEN_LIMIT-clause-parses c).In-Some in
+    c.give_up.ensures _ _ d.same d.counted
+    (λ n clean. absurd (omega (arith, not_over _ d (c.loop-t.invariant.6 clean.tokens clean.lexes), c.count.ensures, c.if-count-gt-TOKEN_LIMIT.true, clean.count, clean.few)))
 
 pub loop-t-smaller : goal.loop-t-smaller
 loop-t-smaller c =
-    let on = onward _ _ _ _ c.loop-t.invariant.1 (given c.loop-t.invariant.0 _ _ c.in-Some.is c.in_ok-t.ensures.reads) in
+    let on = onward _ _ _ _ (stepped (goal.at.loop-t-smaller c).In-Some).given in
     omega arith
+
+pub loop-t-init : goal.loop-t-init
+loop-t-init c =
+    let s = c.in_ok-scanner.ensures in
+    let e = c.requires.empty in
+    (s.0, s.3, refl, refl, refl, omega (arith, e.used, ap length e.parts), λ ls. along_none _ s.1 s.2 e)
 
 pub loop-t-preserved : goal.loop-t-preserved
 loop-t-preserved c =
-    let g = given c.loop-t.invariant.0 _ _ c.in-Some.is c.in_ok-t.ensures.reads in
-    let went : c.step.result ≡ Some c.in_ok-position.position = grind (arith, c.in_ok-position.ensures) in
-    let grown = c.step.ensures.grown in (
-      c.in_ok-t.ensures.sheet ∙ c.loop-t.invariant.0,
-      (onward _ _ _ _ c.loop-t.invariant.1 g).1,
+    let d = stepped (goal.at.loop-t-preserved c).In-Some in
+    let told = c.in-Some-step.ensures in
+    let grown = told.grown in (
+      d.same,
+      d.counted,
       grown.lent ∙ c.loop-t.invariant.2,
       grown.long ∙ c.loop-t.invariant.3,
       grown.space ∙ c.loop-t.invariant.4,
+      omega (arith, grown.few, c.loop-t.invariant.5, d.more),
       λ ls l.
-          let h = c.loop-t.invariant.5 ls l in
-          along_more _ g _ c.into.ensures h
-          (MatchOption-at_some _ _ c.in_ok-position.position went (c.step.ensures.turns _ _ _ _ (lies_within _ g _ c.into.ensures h) h.sofar.holds))
-          grown.few,
+          let h = c.loop-t.invariant.6 ls l in
+          along_more _ d h _ c.into.ensures (told.turns _ _ _ _ (lies_within _ d h _ c.into.ensures) h.sofar.holds),
     )
 
-pub returns-in_err-position-clause-parses : goal.returns-in_err-position-clause-parses
-returns-in_err-position-clause-parses c =
-    let clean = c.requires.clean.1 in
-    let g = given c.loop-t.invariant.0 _ _ c.in-Some.is c.in_ok-t.ensures.reads in
-    let h = c.loop-t.invariant.5 clean.tokens clean.lexes in
-    let stuck : c.step.result ≡ None = grind (arith, c.in_err-position.ensures) in
-    let told : c.in_err-position.field-0.0 ≡ record { reason = NoProgram; place = c.in-Some.t.at } = grind (arith, c.in_err-position.ensures) in
-    let dead = refused_here _ g _ c.into.ensures h clean.lexes (MatchOption-at_none _ _ stuck (c.step.ensures.turns _ _ _ _ (lies_within _ g _ c.into.ensures h) h.sofar.holds)) in
-    let p = err_from_is_err_and c.from_residual-in_err-position.result c.from_residual-in_err-position.ensures.1 in
-    rw (p.1, p.2, told) (refl, dead)
+pub returns-in_default-step-clause-parses : goal.returns-in_default-step-clause-parses
+returns-in_default-step-clause-parses c =
+    let d = stepped (goal.at.returns-in_default-step-clause-parses c).In-Some in
+    c.give_up-in_default-step.ensures _ _ d.same d.counted
+    (λ n clean.
+    let h = c.loop-t.invariant.6 clean.tokens clean.lexes in
+    refused_here _ d h _ c.into.ensures clean.lexes (c.in_default-step.ensures.turns _ _ _ _ (lies_within _ d h _ c.into.ensures) h.sofar.holds))
 
-pub returns-in_err-t-clause-parses : goal.returns-in_err-t-clause-parses
-returns-in_err-t-clause-parses c =
-    let clean = c.requires.clean.1 in
-    not_stopped _ (stopped_at c.loop-t.invariant.0 c.in_err-t.ensures.reads.0) (c.loop-t.invariant.5 clean.tokens clean.lexes)
+-- what the last step gave
+ended : (c : In_default) → Counts c.loop-t.scanner (Ok None) c.next.new.self
+ended c = subst (λ o. Counts c.loop-t.scanner (Ok o) c.next.new.self) c.in_default.is (c.in_ok-t.ensures.counts c.loop-t.invariant.1)
+
+pub returns-in_err-rest-clause-parses : goal.returns-in_err-rest-clause-parses
+returns-in_err-rest-clause-parses c =
+    let d = ended (goal.at.returns-in_err-rest-clause-parses c).In_default in
+    token_told _ c.from_residual-in_err-rest.ensures.1 (c.in_ok-t.ensures.sheet ∙ c.loop-t.invariant.0) (c.in_err-rest.ensures d.0)
 
 pub returns-clause-parses : goal.returns-clause-parses
 returns-clause-parses c =
-    let clean = c.requires.clean.1 in
-    let h = c.loop-t.invariant.5 clean.tokens clean.lexes in
-    let all = all_read (finished_at c.loop-t.invariant.0 _ _ c.in_default.is c.in_ok-t.ensures.reads) h in
-    all_along h all (c.finish.ensures _ clean.tokens refl clean.lexes (omega (arith, clean.count, clean.few)))
+    let d = ended (goal.at.returns-clause-parses c).In_default in
+    let told = c.in_ok-t.ensures in
+    let clean = subst (λ l. Clean l c.in_ok-rest.field-0) (told.sheet ∙ c.loop-t.invariant.0) (c.in_ok-rest.ensures d.0) in
+    let all = all_along (finished_at c.loop-t.invariant.0 _ _ c.in_default.is told.reads) (c.loop-t.invariant.6 clean.tokens clean.lexes) in
+    tokens_clean clean (c.finish.ensures _ clean.tokens refl clean.lexes (omega (arith, clean.count, clean.few)) (omega (arith, all.0, c.loop-t.invariant.5)) all.1)
