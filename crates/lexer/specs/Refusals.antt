@@ -23,7 +23,7 @@ words_of NoToken = codes "no token begins here, or a string or comment is not cl
 words_of LargeToken = codes "a name over 32 bytes, a string over 255 code units, or a number out of range"
 words_of LineFeed = codes "a line feed after `return`, or before `=>`"
 words_of ManyTokens = codes "the sheet has over 4,096 tokens"
-words_of NoProgram = codes "not a program"
+words_of NoProgram = codes "not a program, or a part of the language that is not in yet"
 words_of HeavySheet = codes "the sheet's types are too large"
 words_of Damaged = codes "a table was altered"
 words_of NoExpression = codes "no such expression"

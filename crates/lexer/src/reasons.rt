@@ -51,7 +51,7 @@ impl fmt::Display for Reason {
                 "a name over 32 bytes, a string over 255 code units, or a number out of range",
             Reason::LineFeed => "a line feed after `return`, or before `=>`",
             Reason::ManyTokens => "the sheet has over 4,096 tokens",
-            Reason::NoProgram => "not a program",
+            Reason::NoProgram => "not a program, or a part of the language that is not in yet",
             Reason::HeavySheet => "the sheet's types are too large",
             Reason::Damaged => "a table was altered",
             Reason::NoExpression => "no such expression",
