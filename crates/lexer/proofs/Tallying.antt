@@ -1,8 +1,7 @@
 -- One token more in a tally, and the end of one. Assumes nothing.
-use Rattle.std.proofs.Common.{rules, Bool, true, false, eqb, ◌≡◌, ℕ, suc, ◌+◌, ◌<◌, ◌≤◌, ◌⊎◌, List, [], ◌∷◌, length, Some, None, Ok, Decides, Option, sym, refl, ap, ◌∙◌, subst, inl, inr, ⊎_elim, arith, take, drop, IfSome}
+use Rattle.std.proofs.Common.{rules, true, false, eqb, ◌≡◌, ℕ, suc, ◌+◌, ◌<◌, ◌≤◌, ◌⊎◌, List, [], ◌∷◌, length, Some, None, Ok, Option, sym, refl, ap, ◌∙◌, subst, inl, inr, ⊎_elim, arith, take, drop, IfSome}
 use Rattle.std.proofs.lemmas.Bool.{cases_Bool, false≢true, eqb-true, eqb-false}
-use Rattle.std.specs.Bool.{then_some}
-use Rattle.std.specs.Option.{option_or, is_some}
+use Rattle.std.specs.Option.{is_some}
 use Rattle.lexer.specs.Sizes.{Small}
 use Rattle.lexer.specs.Faults.{FirstFault}
 use Rattle.lexer.specs.declared.reasons.Reason.TheVariants.{LineFeed, ManyTokens}
@@ -23,13 +22,17 @@ pub data Recorded (a : Tally) (sheet : List ℕ) (at : ℕ) (t : Token) (r : Opt
   here : a.line ≡ None → Breaks a.last sheet at t → r ≡ Some t.at → Recorded a sheet at t r
   nowhere : a.line ≡ None → (Breaks a.last sheet at t → ⊥) → r ≡ None → Recorded a sheet at t r
 
-pub recorded : (a : Tally) (sheet : List ℕ) (at : ℕ) (t : Token) (r : Bool) (l : Option ℕ) → Decides r (Breaks a.last sheet at t) → l ≡ option_or a.line (then_some r t.at) → Recorded a sheet at t l
-recorded a sheet at t r l = go a.line r refl
+pub no_line : (o : Option ℕ) → is_some o ≡ false → o ≡ None
+no_line None e = refl
+no_line (Some p) e = absurd (false≢true (sym e))
+
+-- a line that is recorded stays
+pub still_recorded : {a : Tally} {sheet : List ℕ} {at : ℕ} {t : Token} {r : Option ℕ} → is_some a.line ≡ true → r ≡ a.line → Recorded a sheet at t r
+still_recorded {a} {sheet} {at} {t} {r} n k = go a.line refl n
   where
-    go : (x : Option ℕ) (y : Bool) → a.line ≡ x → Decides y (Breaks a.last sheet at t) → l ≡ option_or x (then_some y t.at) → Recorded a sheet at t l
-    go (Some q) y f d e = before q f e
-    go None true f d e = here f (d.0 refl) e
-    go None false f d e = nowhere f (λ h. false≢true (d.1 h)) e
+    go : (o : Option ℕ) → a.line ≡ o → is_some o ≡ true → Recorded a sheet at t r
+    go (Some q) e n = before q e (k ∙ e)
+    go None e n = absurd (false≢true n)
 
 some_once : {p q : ℕ} {r : Option ℕ} → r ≡ Some p → r ≡ Some q → p ≡ q
 some_once e f = cc
@@ -49,7 +52,7 @@ further (broken_line t u n o f e) = broken_line t u (next_later n) o f e
 module _ (sheet : List ℕ) (at next : ℕ) (a : Tally) (t : Token) (was : Tallied sheet at a) (g : Given sheet at t next)
     (count : ℕ) (over line : Option ℕ)
     (more : count ≡ a.count + 1)
-    (many : over ≡ option_or a.over (then_some (eqb a.count 4096) t.at))
+    (over-now : a.count ≡ 4096 → over ≡ Some t.at) (over-other : (a.count ≡ 4096 → ⊥) → over ≡ a.over)
     (kept : Recorded a sheet at t line)
   where
     abbrev b : Tally
@@ -73,15 +76,16 @@ module _ (sheet : List ℕ) (at next : ℕ) (a : Tally) (t : Token) (was : Talli
     now_seen h = grind arith
 
     over_at : (tokens : List Tok) → nth tokens (a.count + 0) ≡ tok → OverAt tokens a.count a.over → OverAt tokens b.count over
-    over_at tokens first old = subst (OverAt tokens b.count) (sym many) (go a.over old)
+    over_at tokens first old =
+        ⊎_elim
+        (λ e. let n = eqb-true _ _ e in
+        subst (OverAt tokens b.count) (sym (over-now n)) (omega (arith, n, more), ap (λ k. (nth tokens k).1) (let i : 4096 ≡ a.count + 0 = omega (arith, n) in i) ∙ ap (λ x. x.1) first))
+        (λ e. let n = eqb-false _ _ e in subst (OverAt tokens b.count) (sym (over-other n)) (go a.over n old))
+        (cases_Bool (eqb a.count 4096))
       where
-        go : (o : Option ℕ) → OverAt tokens a.count o → OverAt tokens b.count (option_or o (then_some (eqb a.count 4096) t.at))
-        go (Some p) h = (omega arith, h.1)
-        go None h =
-            ⊎_elim
-            (λ e. let i : 4096 ≡ a.count + 0 = omega (arith, eqb-true _ _ e) in rw e (omega (arith, eqb-true _ _ e), ap (λ k. (nth tokens k).1) i ∙ ap (λ x. x.1) first))
-            (λ e. rw e (omega (arith, eqb-false _ _ e)))
-            (cases_Bool (eqb a.count 4096))
+        go : (o : Option ℕ) → (a.count ≡ 4096 → ⊥) → OverAt tokens a.count o → OverAt tokens b.count o
+        go (Some p) n h = (omega arith, h.1)
+        go None n h = omega (arith, n)
 
     left : (o : Option Token) (us : List Tok) (p : ℕ) → BrokenLine sheet (tok ∷ us) p → BrokenLine sheet (joined o (tok ∷ us)) p
     left None us p x = x

@@ -52,17 +52,17 @@ impl<'a> Tally<'a> {
 
     // One token more; the tokens before it end at `from`. The count is exact, as a sheet that is not too long has no more
     // tokens than bytes; of a longer one, nothing is said.
-    fn with(self, sheet: &[u8], from: usize, t: Token<'a>) -> Tally<'a>
-        ensures { (next : ℕ) → length sheet.now ≤ 16384 → Tallied sheet.now from self.entry → Given sheet.now from t.entry next → Tallied sheet.now next result × (result.count ≡ self.entry.count + 1) }
+    fn add(&mut self, sheet: &[u8], from: usize, t: Token<'a>)
+        ensures { (next : ℕ) → length sheet.now ≤ 16384 → Tallied sheet.now from self.old → Given sheet.now from t.entry next → Tallied sheet.now next self.new × (self.new.count ≡ self.old.count + 1) }
     {
-        let many = self.count == TOKEN_LIMIT;
-        let broken = self.breaks(sheet, from, t);
-        Tally {
-            count: self.count.saturating_add(1),
-            over: self.over.or(many.then_some(t.at)),
-            line: self.line.or(broken.then_some(t.at)),
-            last: Some(t),
+        if self.count == TOKEN_LIMIT {
+            self.over = Some(t.at);
         }
+        if self.line.is_none() && self.breaks(sheet, from, t) {
+            self.line = Some(t.at);
+        }
+        self.count = self.count.saturating_add(1);
+        self.last = Some(t);
     }
 
     // The first fault of a sheet whose tokens are all counted.
@@ -116,7 +116,7 @@ impl<'a> Scanner<'a> {
         let from = self.reader.at;
         let next = self.reader.next()?;
         if let Some(t) = next {
-            self.tally = self.tally.with(self.reader.sheet, from, t);
+            self.tally.add(self.reader.sheet, from, t);
         }
         Ok(next)
     }
