@@ -1,4 +1,5 @@
 // Types as words, in prefix form.
+use anyhow::bail;
 use std::fmt::Write;
 use types::entries::{Root, TypeEntry};
 
@@ -66,7 +67,7 @@ fn push_parts(pending: &mut Vec<usize>, entry: TypeEntry) -> anyhow::Result<()> 
 }
 
 // Writes the type at an index, a space before each word. `pending` is a stack to work with. The parts are counted, since over
-// entries out of order they need not end; a type of a checked sheet has no more of them than the table has entries.
+// entries out of order they need not end; a type of a checked sheet has no more of them than its load.
 pub fn spell(
     out: &mut String,
     pending: &mut Vec<usize>,
@@ -83,5 +84,5 @@ pub fn spell(
         spell_head(out, types, entry)?;
         push_parts(pending, entry)?;
     }
-    Ok(())
+    bail!("the parts of a type do not end")
 }

@@ -14,7 +14,7 @@ pub const HEAD: usize = 2 * WORD;
 const ROW: usize = 2 * WORD;
 
 // Writes the four lowest bytes of a number.
-pub fn put(out: &mut [u8], at: usize, value: usize)
+pub(crate) fn put(out: &mut [u8], at: usize, value: usize)
     requires { at + 4 ≤ length out.old }
     ensures { out.new ≡ replaced out.old at (word value) }
 {
@@ -32,7 +32,7 @@ fn put_finding(out: &mut [u8], at: usize, f: Finding)
 }
 
 // Writes the first of `count` findings after the head, as many as are listed and have room.
-pub fn put_findings(out: &mut [u8], findings: &[Finding], count: usize)
+pub(crate) fn put_findings(out: &mut [u8], findings: &[Finding], count: usize)
     requires { 8 ≤ length out.old }
     ensures { out.new ≡ replaced out.old 8 (rows (take (min (min count (length findings.now)) ((length out.old - 8) / 8)) findings.now)) }
 {

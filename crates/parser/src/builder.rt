@@ -190,7 +190,7 @@ impl<'a> Builder<'a> {
     }
 
     // One token more; `None` where no program goes on with it.
-    pub fn step(&mut self, position: Position, t: Token) -> Option<Position>
+    pub(crate) fn step(&mut self, position: Position, t: Token) -> Option<Position>
         requires { HasRoom self.old }
         ensures grown { Grown 1 self.old self.new }
         ensures turns { (sheet : ℕ) (s : State) (b : List Expr) (ps : List Part) → Within sheet t → Stands sheet self.old position s b ps → MatchOption result (Dead s b ps t) (λ q. Turns sheet self.new q s b ps t) }

@@ -65,7 +65,7 @@ fn build(sheet: &[u8], builder: &mut Builder) -> Result<Read, Refusal>
 }
 
 // The same, with the tables that the builder takes.
-pub fn parse(
+pub(crate) fn parse(
     sheet: &[u8],
     tree: &mut [TreeEntry],
     operators: &mut [OperatorEntry],

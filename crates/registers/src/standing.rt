@@ -61,7 +61,7 @@ fn told_function(parameters: &[Basic], last: Basic, room: &mut [TypeEntry; ROOM]
 
 // The binding as a register tells it. The parts of a function type are written into `room`.
 #[tactic(auto, using(crate::proofs::Basics::few_parameters, crate::proofs::Basics::plain_made))]
-pub fn told(standing: Standing, room: &mut [TypeEntry; ROOM]) -> Told
+pub(crate) fn told(standing: Standing, room: &mut [TypeEntry; ROOM]) -> Told
     requires { Fit (binding_of standing) }
     ensures { Tells (Some (binding_of standing)) (Some result) room.new }
 {

@@ -24,8 +24,8 @@ pub struct Outcome {
 }
 
 // Checks a sheet by the library over tables of any sizes. It takes slices, since a proof loses sight of a `Vec` that is lent
-// inside a struct. It goes through `run` with one call, not through `read_and_check`: the law that is proved is of whole runs,
-// and a run is the call that the programs make, by a rule of the project.
+// inside a struct. It goes through `run` with one call, not through `read_and_check`: the law is of whole runs, so the
+// programs make a run of one call.
 fn check_over(
     sheet: &[u8],
     tree: &mut [TreeEntry],

@@ -41,8 +41,7 @@ struct Row {
 
 use Verdict::{ByParts as P, Meet as M, Never as N};
 
-// Rows and columns in rank order. An array of rows, indexed by two kinds, as the project asks for; no match says it at a
-// glance.
+// Rows and columns in rank order: an array of rows, indexed by two kinds, so that it is read as a table.
 const MEETING: [Row; KINDS] = [
     Row {
         cells: [M, M, N, N, N, N, N, N, N, N, N, N],

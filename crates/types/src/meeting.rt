@@ -7,8 +7,8 @@ use crate::entries::{Root, TypeEntry};
 use crate::kinds::{Verdict, kind_of, verdict_of};
 use std::ops::Range;
 
-// Whether two types have a common value. Where one of them is no type of the table, the answer is free. A function of both,
-// since a test on two entries is the form that is asked for.
+// Whether two types have a common value. Where one of them is no type of the table, the answer is free. Of an entry of
+// the table `used` is its index, and the sum of the two falls with each step to parts.
 #[cycle(meeting)]
 pub fn meets(types: &[TypeEntry], a: Root, b: Root) -> bool
     ensures { SaysMeet types.now a.used a.entry b.used b.entry result }

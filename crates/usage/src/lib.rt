@@ -11,7 +11,7 @@ use parser::tree::TreeEntry;
 use registers::empty::Empty;
 use registers::library::Library;
 
-pub fn first_type(
+fn first_type(
     sheet: &[u8],
     tree: &mut [TreeEntry],
     tables: &mut Tables<'_>,
