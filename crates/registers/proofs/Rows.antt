@@ -1,12 +1,11 @@
 -- The first row that has a name, and rows by the lengths of their names. Assumes nothing.
-use Rattle.std.proofs.Common.{◌≡◌, ℕ, zero, suc, ◌+◌, ◌<◌, ◌≤◌, Bool, true, false, eqb, ltb, cond, List, [], ◌∷◌, length, get_or, Some, None, Option, Bor, refl, sym, ap, ◌∙◌, ⊎_elim, arith}
+use Rattle.std.proofs.Common.{◌≡◌, ℕ, zero, suc, ◌+◌, ◌<◌, ◌≤◌, Bool, true, false, eqb, ltb, cond, List, [], ◌∷◌, length, get_or, Some, None, Option, refl, sym, ap, ◌∙◌, ⊎_elim, arith}
 use Rattle.std.proofs.lemmas.Bool.{cases_Bool, false≢true, eq-eqb, ltb-true}
 use Rattle.std.proofs.lemmas.Bool.Decides.{Decides-eqb}
 use Rattle.std.proofs.lemmas.Slice.Eq.{slice_eq-Decides}
 use Rattle.std.specs.Str.{bytes_eq}
 use Rattle.std.specs.List.{find, AllByRecursion}
 use Rattle.std.specs.Option.{option_map}
-use Rattle.registers.specs.declared.standing.Standing.{Standing}
 use Rattle.registers.specs.Meaning.{Name, Binding, Line, look_up}
 use Rattle.registers.specs.Standings.{TableEntry, binding_of, table_lines, TableRow, of_length, Placed}
 
@@ -32,7 +31,7 @@ kept true l ks ls n f e = ap (cond (bytes_eq l.0 n) (Some l.1)) e
 kept false l ks ls n f e = e ∙ sym (ap (λ b. cond b (Some l.1) (look_up ls n)) (f refl))
 
 -- a look-up needs the lines of its length alone
-pub same_length : (ls : List Line) (n : Name) → look_up (of_length (length n) ls) n ≡ look_up ls n
+same_length : (ls : List Line) (n : Name) → look_up (of_length (length n) ls) n ≡ look_up ls n
 same_length [] n = refl
 same_length (l ∷ ls) n =
     kept (eqb (length l.0) (length n)) l _ ls n
