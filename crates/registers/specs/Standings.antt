@@ -1,5 +1,6 @@
 -- No public contract cites it. What the rows of the library's table stand for. Assumes nothing.
-use Rattle.std.specs.Prelude.{ℕ, List, [], ◌∷◌, map, Option}
+use Rattle.std.specs.Prelude.{◌≡◌, ℕ, suc, true, cond, nat_eq, nat_lt, List, [], ◌∷◌, length, map, Option}
+use Rattle.std.specs.List.{AllByRecursion}
 use Rattle.std.specs.Option.{option_map}
 use Rattle.std.specs.Borrow.{Bor}
 use Rattle.types.specs.declared.entries.TypeEntry.{TypeEntry}
@@ -34,8 +35,24 @@ binding_of (Standing.Function ps r) = typed (function (basic_types ps.now) (basi
 abbrev pub stands : Option Standing → Option Binding
 stands = option_map binding_of
 
-abbrev pub table_line : Bor (List ℕ) × Standing → Line
+abbrev pub TableEntry : Type 0
+TableEntry = Bor (List ℕ) × Standing
+
+abbrev pub table_line : TableEntry → Line
 table_line r = (r.0.now, binding_of r.1)
 
-abbrev pub table_lines : List (Bor (List ℕ) × Standing) → List Line
+abbrev pub table_lines : List TableEntry → List Line
 table_lines = map table_line
+
+abbrev pub TableRow : Type 0
+TableRow = Bor (List TableEntry)
+
+-- the lines whose names have n bytes
+abbrev pub of_length : ℕ → List Line → List Line
+of_length n [] = []
+of_length n (l ∷ ls) = cond (nat_eq (length l.0) n) (l ∷ of_length n ls) (of_length n ls)
+
+-- the rows of a table have the lines of their lengths, from k bytes on, and no name is longer
+abbrev pub Placed : List Line → ℕ → List TableRow → Type 0
+Placed ls k [] = AllByRecursion (λ l. nat_lt (length l.0) k ≡ true) ls
+Placed ls k (r ∷ rs) = (table_lines r.now ≡ of_length k ls) × Placed ls (suc k) rs
