@@ -31,7 +31,7 @@ sum_lexes =
     (lexing.done 0 end_gap (lit≤ tt)))))
 
 sum_read : Reading sum_sheet (sum ∷ [])
-sum_read = reading sum_lexes (begin (operand refl (operator Add refl (lit≤ tt) (lit≤ tt) (operand refl (reduced refl (lit≤ tt) (end refl done))))))
+sum_read = reading (lit≤ tt) refl (lit≤ tt) sum_lexes (begin (operand refl (operator Add refl (lit≤ tt) (lit≤ tt) (operand refl (reduced refl (lit≤ tt) (end refl done))))))
 
 chosen_lexes : Lexes chosen_sheet 0
     ((kind.Mark, 0, 1) ∷ (kind.Word, 1, 4) ∷ (kind.Mark, 6, 1) ∷ (kind.Number, 8, 1) ∷ (kind.Mark, 10, 1) ∷ (kind.String, 12, 3) ∷ (kind.Mark, 15, 1) ∷ (kind.Mark, 17, 1) ∷ (kind.Number, 19, 1) ∷ (kind.Mark, 20, 1) ∷ []) finished
@@ -50,7 +50,7 @@ chosen_lexes =
 
 chosen_read : Reading chosen_sheet (chosen ∷ [])
 chosen_read =
-    reading chosen_lexes
+    reading (lit≤ tt) refl (lit≤ tt) chosen_lexes
     (begin (opened refl
     (operand refl (asked refl (lit≤ tt) (lit≤ tt) (operand refl (turned refl (operand refl (reduced refl (lit≤ tt)
     (closed refl (operator Add refl (lit≤ tt) (lit≤ tt) (operand refl (reduced refl (lit≤ tt)
@@ -65,7 +65,7 @@ lesser_lexes =
     (lexing.done 0 end_gap (lit≤ tt)))))
 
 lesser_read : Reading lesser_sheet (lesser ∷ [])
-lesser_read = reading lesser_lexes (begin (operand refl (operator Less refl (lit≤ tt) (lit≤ tt) (operand refl (reduced refl (lit≤ tt) (end refl done))))))
+lesser_read = reading (lit≤ tt) refl (lit≤ tt) lesser_lexes (begin (operand refl (operator Less refl (lit≤ tt) (lit≤ tt) (operand refl (reduced refl (lit≤ tt) (end refl done))))))
 
 unbound_lexes : Lexes unbound_sheet 0 ((kind.Name, 0, 3) ∷ (kind.Mark, 3, 1) ∷ []) finished
 unbound_lexes =
@@ -74,10 +74,10 @@ unbound_lexes =
     (lexing.done 0 end_gap (lit≤ tt)))
 
 unbound_read : Reading unbound_sheet (unbound ∷ [])
-unbound_read = reading unbound_lexes (begin (operand refl (end refl done)))
+unbound_read = reading (lit≤ tt) refl (lit≤ tt) unbound_lexes (begin (operand refl (end refl done)))
 
 empty_read : Reading [] []
-empty_read = reading {ls = []} (lexing.done 0 end_gap (lit≤ tt)) done
+empty_read = reading {ls = []} (lit≤ tt) refl (lit≤ tt) (lexing.done 0 end_gap (lit≤ tt)) done
 
 pub sheets : Sheets
 sheets = (

@@ -33,12 +33,11 @@ same_types (statement d x) (statement e y) = ap₂ (λ t ts. t ∷ ts) (sym (one
 pub told : {sheet : List ℕ} {Γ : Meaning} {es : List Expr} {ts : List Ty} {ns : List Note} {found : List Finding} → Reading sheet es → OfTypes sheet Γ es ts → AllTyped sheet Γ es ns → Findings (conditions ns) found → Told sheet Γ ts found
 told {found = found} r x d f = record {
   program = _;
-  written = r.written;
+  readable = r;
   types = x;
   notes = _;
   typed = d;
   findings = f;
-  only_program = r.only;
   only_types = λ us y. same_types x y;
   only_findings = λ ns fs e g. findings_tell_lem.0 _ fs found (subst (λ ms. Findings (conditions ms) fs) (one_typing_of_all e d) g) f;
 }

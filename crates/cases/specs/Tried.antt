@@ -6,28 +6,28 @@ use Rattle.types.specs.Examples.{ListsMeet}
 use Rattle.building.specs.Literals.{Numeral}
 use Rattle.registers.specs.Meaning.{Meaning}
 use Rattle.parser.specs.Syntax.{Expr}
-use Rattle.parser.specs.Reading.{Written}
+use Rattle.parser.specs.Reading.{Sizes, Short}
 use Rattle.checker.specs.declared.finding.Kind.{Kind}
 use Rattle.checker.specs.declared.finding.Kind.TheVariants.{Clash, UnknownName}
 use Rattle.checker.specs.declared.finding.Finding.{Finding}
 use Rattle.checker.specs.Rules.{Note, Typed, AllTyped, conditions}
 use Rattle.checker.specs.Findings.{Findings}
+use Rattle.checker.specs.Runs.{Readable}
 
 -- the types of the expressions of a program, one for each statement
 pub data OfTypes (sheet : List ℕ) (Γ : Meaning) : List Expr → List Ty → Type 0 where
   no_statement : OfTypes sheet Γ [] []
   statement : {e : Expr} {es : List Expr} {t : Ty} {ts : List Ty} {ns : List Note} → Typed sheet Γ e t ns → OfTypes sheet Γ es ts → OfTypes sheet Γ (e ∷ es) (t ∷ ts)
 
--- the sheet is a program; in the scope Γ its statements have these types, and these are its findings; and it has no other
--- program, types or findings
+-- the sheet breaks no rule of reading, over tables of any sizes that are not short, and is one program; in the scope Γ its
+-- statements have these types, and these are its findings; and it has no other program, types or findings
 pub record Told (sheet : List ℕ) (Γ : Meaning) (ts : List Ty) (found : List Finding) : Type 0 where
   pub program : List Expr
-  pub written : Written sheet program
+  pub readable : (s : Sizes) → (Short s → ⊥) → Readable s sheet program
   pub types : OfTypes sheet Γ program ts
   pub notes : List Note
   pub typed : AllTyped sheet Γ program notes
   pub findings : Findings (conditions notes) found
-  pub only_program : (es : List Expr) → Written sheet es → es ≡ program
   pub only_types : (us : List Ty) → OfTypes sheet Γ program us → us ≡ ts
   pub only_findings : (ns : List Note) (fs : List Finding) → AllTyped sheet Γ program ns → Findings (conditions ns) fs → fs ≡ found
 

@@ -18,7 +18,7 @@ use Rattle.parser.specs.Syntax.{Expr}
 use Rattle.parser.specs.Grammar.{leaf_of, Phrase, begins, goes_on, Operand, a_leaf, brackets, prefixed, Suffix, by_operator, by_choice, Statements, none, more}
 use Rattle.parser.specs.Reading.{tokens, Written}
 use Rattle.checker.specs.Rules.{part}
-use Rattle.checker.specs.Readable.{Legible, Readable, readable_leaf, readable_unary, readable_binary, readable_choice, AllReadable, readable_none, readable_more}
+use Rattle.checker.specs.Legible.{Legible, LegibleExpr, legible_leaf, legible_unary, legible_binary, legible_choice, AllLegible, legible_none, legible_more}
 
 -- a leaf that is no number and no string
 abbrev other : Option Leaf → Bool
@@ -77,25 +77,25 @@ lexed_legible (refused g p w) = no_token
 lexed_legible {sheet} (token g {k} n p t small l) = one_token (λ m is. legible_token k _ m small is) (lexed_legible l)
 
 mutual
-  phrase_readable : {sheet : List ℕ} {ℓ : ℕ} {ts us : List Token} {e : Expr} → Phrase ℓ ts e us → LegibleTokens sheet ts → Readable sheet e × LegibleTokens sheet us
-  phrase_readable (begins le o) x = operand_readable o x
-  phrase_readable (goes_on f is le p s) x = let r = phrase_readable p x in suffix_readable s r.0 (rest r.1)
+  phrase_legible : {sheet : List ℕ} {ℓ : ℕ} {ts us : List Token} {e : Expr} → Phrase ℓ ts e us → LegibleTokens sheet ts → LegibleExpr sheet e × LegibleTokens sheet us
+  phrase_legible (begins le o) x = operand_legible o x
+  phrase_legible (goes_on f is le p s) x = let r = phrase_legible p x in suffix_legible s r.0 (rest r.1)
 
-  operand_readable : {sheet : List ℕ} {k : ℕ} {ts us : List Token} {e : Expr} → Operand k ts e us → LegibleTokens sheet ts → Readable sheet e × LegibleTokens sheet us
-  operand_readable (a_leaf is) (one_token x xs) = (readable_leaf (x _ is), xs)
-  operand_readable (brackets o c p) (one_token x xs) = let r = phrase_readable p xs in (r.0, rest r.1)
-  operand_readable (prefixed is p) (one_token x xs) = let r = phrase_readable p xs in (readable_unary r.0, r.1)
+  operand_legible : {sheet : List ℕ} {k : ℕ} {ts us : List Token} {e : Expr} → Operand k ts e us → LegibleTokens sheet ts → LegibleExpr sheet e × LegibleTokens sheet us
+  operand_legible (a_leaf is) (one_token x xs) = (legible_leaf (x _ is), xs)
+  operand_legible (brackets o c p) (one_token x xs) = let r = phrase_legible p xs in (r.0, rest r.1)
+  operand_legible (prefixed is p) (one_token x xs) = let r = phrase_legible p xs in (legible_unary r.0, r.1)
 
-  suffix_readable : {sheet : List ℕ} {f : Follow} {a e : Expr} {ts us : List Token} → Suffix f a ts e us → Readable sheet a → LegibleTokens sheet ts → Readable sheet e × LegibleTokens sheet us
-  suffix_readable (by_operator p) a x = let r = phrase_readable p x in (readable_binary a r.0, r.1)
-  suffix_readable (by_choice is p q) a x =
-      let r = phrase_readable p x in
-      let s = phrase_readable q (rest r.1) in
-      (readable_choice a r.0 s.0, s.1)
+  suffix_legible : {sheet : List ℕ} {f : Follow} {a e : Expr} {ts us : List Token} → Suffix f a ts e us → LegibleExpr sheet a → LegibleTokens sheet ts → LegibleExpr sheet e × LegibleTokens sheet us
+  suffix_legible (by_operator p) a x = let r = phrase_legible p x in (legible_binary a r.0, r.1)
+  suffix_legible (by_choice is p q) a x =
+      let r = phrase_legible p x in
+      let s = phrase_legible q (rest r.1) in
+      (legible_choice a r.0 s.0, s.1)
 
-statements_readable : {sheet : List ℕ} {ts us : List Token} {ss : List Expr} → Statements ts ss us → LegibleTokens sheet ts → AllReadable sheet ss
-statements_readable none x = readable_none
-statements_readable (more is p s) x = let r = phrase_readable p x in readable_more r.0 (statements_readable s (rest r.1))
+statements_legible : {sheet : List ℕ} {ts us : List Token} {ss : List Expr} → Statements ts ss us → LegibleTokens sheet ts → AllLegible sheet ss
+statements_legible none x = legible_none
+statements_legible (more is p s) x = let r = phrase_legible p x in legible_more r.0 (statements_legible s (rest r.1))
 
-pub written_readable : {sheet : List ℕ} {ss : List Expr} → Written sheet ss → AllReadable sheet ss
-written_readable w = statements_readable w.program (lexed_legible w.lexes)
+pub written_legible : {sheet : List ℕ} {ss : List Expr} → Written sheet ss → AllLegible sheet ss
+written_legible w = statements_legible w.program (lexed_legible w.lexes)

@@ -19,10 +19,10 @@ use Rattle.parser.specs.declared.symbols.Operator.TheVariants.{Multiply, Divide,
 use Rattle.parser.specs.Syntax.{Expr, place}
 use Rattle.checker.specs.Conditions.{Condition, fits}
 use Rattle.checker.specs.Rules.{part, type_of, LeafRule, a_number, a_string, a_true, a_false, a_null, a_name, PrefixRule, a_not, a_negation, a_typeof, by_minus, by_times, by_over, by_remainder, by_less, by_greater, by_at_most, by_at_least, by_same, by_differs, by_and, by_or, Logical, Numeric, is_number, is_number_literal, Textual, is_string, is_string_literal, Open, number_or_string, InfixRule, arithmetic, comparison, logical, left_number, left_string, right_number, right_string, both_open, Note, ends, types, Typed, typed_leaf, typed_unary, typed_binary, typed_choice, AllTyped, typed_none, typed_more}
-use Rattle.checker.specs.Readable.{Legible, Readable, readable_leaf, readable_unary, readable_binary, readable_choice, AllReadable, readable_none, readable_more}
+use Rattle.checker.specs.Legible.{Legible, LegibleExpr, legible_leaf, legible_unary, legible_binary, legible_choice, AllLegible, legible_none, legible_more}
 use Rattle.checker.specs.Laws.{TypingExists, TypesInForm}
 use Rattle.checker.proofs.Logging.{types_append}
-use Rattle.checker.proofs.Readings.{written_readable}
+use Rattle.checker.proofs.Readings.{written_legible}
 
 bound_form : (o : Option Binding) → ((b : Binding) → o ≡ Some b → Fit b) → InForm (type_of o)
 bound_form None fit = form_any
@@ -134,33 +134,33 @@ module _ (sheet : List ℕ) (Γ : Meaning) (sound : Sound Γ) where
   leaf_typed symbol.False p n x = (_, _, a_false)
   leaf_typed symbol.Null p n x = (_, _, a_null)
 
-  typable : {e : Expr} → Readable sheet e → (t : Ty) × (ns : List Note) × Typed sheet Γ e t ns
-  typable (readable_leaf {l} {p} {n} x) = let r = leaf_typed l p n x in (_, _, typed_leaf r.2)
-  typable (readable_unary {op} {e} x) =
+  typable : {e : Expr} → LegibleExpr sheet e → (t : Ty) × (ns : List Note) × Typed sheet Γ e t ns
+  typable (legible_leaf {l} {p} {n} x) = let r = leaf_typed l p n x in (_, _, typed_leaf r.2)
+  typable (legible_unary {op} {e} x) =
       let a = typable x in
       let r = prefix_typed op (place e) a.0 in
       (_, _, typed_unary a.2 r.2)
-  typable (readable_binary {op} {a} {b} x y) =
+  typable (legible_binary {op} {a} {b} x y) =
       let l = typable x in
       let m = typable y in
       let r = infix_typed (place a) l.0 (place b) m.0 op (typed_form m.2) in
       (_, _, typed_binary l.2 m.2 r.2)
-  typable (readable_choice x y z) =
+  typable (legible_choice x y z) =
       let l = typable x in
       let m = typable y in
       let n = typable z in
       let u = union_exists m.0 (n.0 and no_types) (two_forms (typed_form m.2) (typed_form n.2)) in
       (_, _, typed_choice l.2 m.2 n.2 u.1)
 
-  all_typing_exists : {es : List Expr} → AllReadable sheet es → (ns : List Note) × AllTyped sheet Γ es ns
-  all_typing_exists readable_none = (_, typed_none)
-  all_typing_exists (readable_more x xs) =
+  all_typing_exists : {es : List Expr} → AllLegible sheet es → (ns : List Note) × AllTyped sheet Γ es ns
+  all_typing_exists legible_none = (_, typed_none)
+  all_typing_exists (legible_more x xs) =
       let a = typable x in
       let r = all_typing_exists xs in
       (_, typed_more a.2 r.1)
 
 pub typing_exists_law : TypingExists
-typing_exists_law sheet Γ es sound w = all_typing_exists sheet Γ sound (written_readable w)
+typing_exists_law sheet Γ es sound w = all_typing_exists sheet Γ sound (written_legible w)
 
 -- where an expression ends, its own type is noted
 ends_form : (cs : List Condition) {t : Ty} → InForm t → AllByRecursion InForm (types (ends cs t))

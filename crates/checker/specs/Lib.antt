@@ -9,7 +9,7 @@ pub mod Forms
 pub mod Standing
 pub mod Askings
 pub mod Makings
-pub mod Readable
+pub mod Legible
 pub mod Laws
 pub mod Orders
 pub mod Checks

@@ -21,13 +21,14 @@ use Rattle.checker.proofs.Logging.{few_found as few}
 use Rattle.checker.proofs.Notes.{few_by_load}
 use Rattle.host.specs.Layout.{word, rows, replaced, fitting}
 use Rattle.host.specs.Answers.{tables, Found, Refused, unread, too_heavy, ReadAnswers, is_program, not_read, CheckAnswers, is_checked, is_refused}
+use Rattle.host.proofs.Places.{findings_near, first_near, refusal_near}
 
 pub full : {a b c d : ℕ} → a ≡ 4096 → b ≡ 4096 → c ≡ 4096 → d ≡ 8192 → ◌≡◌ {A = Sizes} (record { of_tree = a; of_operators = b; of_frames = c; of_types = d }) tables
 full e f g h = cc
 
 -- what the program of a checked sheet has
-found_in : {sheet : List ℕ} {ss : List Expr} {c : Checked} {listed : List Finding} {es : List TypeEntry} (d : CheckedAs sheet library ss c listed es) → Found sheet ss d.found c.expressions
-found_in d = record {
+found_in : {s : Sizes} {sheet : List ℕ} {ss : List Expr} {c : Checked} {listed : List Finding} {es : List TypeEntry} → Readable s sheet ss → (d : CheckedAs sheet library ss c listed es) → Found sheet ss d.found c.expressions
+found_in r d = record {
   notes = d.notes;
   typed = d.typed;
   alone = d.alone;
@@ -36,6 +37,7 @@ found_in d = record {
   numbered = d.expressions;
   few_found = omega (arith, few_by_load d.typed, d.load, few d.findings);
   few_expressions = omega (arith, few_by_load d.typed, d.load, d.expressions);
+  near = findings_near r d.typed d.findings;
   derived = λ z. d.derived (d.count ∙ z);
   clean = λ x. sym d.count ∙ d.clean x;
 }
@@ -54,11 +56,11 @@ module _ (sheet out : List ℕ) {s : Sizes} (full : s ≡ tables) (room : 8 ≤ 
 
   pub tell_unread : (e : Refusal) → FirstFault (Fault s sheet) e → after ≡ replaced out 0 (word e.place) → number ≡ number_of e.reason → ReadAnswers sheet out after number
   tell_unread e f p q =
-      subst (λ a. ReadAnswers sheet out a number) (sym p) (subst (ReadAnswers sheet out (replaced out 0 (word e.place))) (sym q) (not_read room (subst (λ z. FirstFault (Fault z sheet) e) full f)))
+      subst (λ a. ReadAnswers sheet out a number) (sym p) (subst (ReadAnswers sheet out (replaced out 0 (word e.place))) (sym q) (not_read room (subst (λ z. FirstFault (Fault z sheet) e) full f) (first_near f)))
 
   tell_refused : (e : Refusal) → Refused s sheet e → after ≡ replaced out 0 (word e.place) → number ≡ number_of e.reason → CheckAnswers sheet out after number
   tell_refused e f p q =
-      subst (λ a. CheckAnswers sheet out a number) (sym p) (subst (CheckAnswers sheet out (replaced out 0 (word e.place))) (sym q) (is_refused room (subst (λ z. Refused z sheet e) full f)))
+      subst (λ a. CheckAnswers sheet out a number) (sym p) (subst (CheckAnswers sheet out (replaced out 0 (word e.place))) (sym q) (is_refused room (subst (λ z. Refused z sheet e) full f) (refusal_near f)))
 
   -- a sheet that could not be read, or could not be checked
   pub tell_not_checked : (r : Unchecked) (e : Refusal) → AnswersTo s library sheet (refusing r) → e ≡ refusal_in r → after ≡ replaced out 0 (word e.place) → number ≡ number_of e.reason → CheckAnswers sheet out after number
@@ -83,4 +85,4 @@ module _ (sheet out : List ℕ) {s : Sizes} (full : s ≡ tables) (room : 8 ≤ 
       ∙ ap (λ l. replaced out 0 (word (length found) ++ (word c.expressions ++ rows l))) (front n listed found d.list fit few) in
       subst (λ a. CheckAnswers sheet out a number) (sym written)
       (subst (CheckAnswers sheet out (replaced out 0 (word (length found) ++ (word c.expressions ++ rows (take n found))))) (sym q)
-      (is_checked room k.0 found c.expressions (subst (λ z. Readable z sheet k.0) full k.1) (found_in d)))
+      (is_checked room k.0 found c.expressions (subst (λ z. Readable z sheet k.0) full k.1) (found_in k.1 d)))

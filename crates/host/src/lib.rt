@@ -42,9 +42,11 @@ fn checked(out: &mut [u8], c: &Checked, findings: &[Finding]) -> u32
     ensures written { out.new ≡ replaced out.old 0 (word c.now.count ++ (word c.now.expressions ++ rows (take (min (min c.now.count (length findings.now)) ((length out.old - 8) / 8)) findings.now))) }
     ensures number { result ≡ 0 }
 {
-    put(out, 0, c.count());
-    put(out, WORD, c.expressions());
-    put_findings(out, findings, c.count());
+    let count = c.count();
+    let expressions = c.expressions();
+    put(out, 0, count);
+    put(out, WORD, expressions);
+    put_findings(out, findings, count);
     0
 }
 

@@ -68,7 +68,7 @@ module _ (s : Sizes) (sheet : List ℕ) where
           lower r q (in_tokens f) e = absurd (clean.faultless r q f)
           lower _ _ (not_program f) e = inl refl
 
-      faultless : {ss : List Expr} → Written sheet ss → (r : Reason) (p : ℕ) → Fault s sheet r p → ⊥
+      pub faultless : {ss : List Expr} → Written sheet ss → (r : Reason) (p : ℕ) → Fault s sheet r p → ⊥
       faultless w _ _ (short_table f) = long f
       faultless w r p (in_tokens f) = clean.faultless r p f
       faultless {ss} w _ _ (not_program f) = f.none ss (subst (λ ts. Program (tokens sheet ts) ss) (lexes_once sheet 0 _ _ finished finished w.lexes f.lexes).0 w.program)

@@ -18,13 +18,13 @@ Legible text symbol.True = Unit {0}
 Legible text symbol.False = Unit {0}
 Legible text symbol.Null = Unit {0}
 
-pub data Readable (sheet : List ℕ) : Expr → Type 0 where
-  readable_leaf : {l : Leaf} {p n : ℕ} → Legible (part sheet p n) l → Readable sheet (leaf l p n)
-  readable_unary : {op : Prefix} {p : ℕ} {e : Expr} → Readable sheet e → Readable sheet (unary op p e)
-  readable_binary : {op : Operator} {a b : Expr} → Readable sheet a → Readable sheet b → Readable sheet (binary op a b)
-  readable_choice : {a b c : Expr} → Readable sheet a → Readable sheet b → Readable sheet c → Readable sheet (choice a b c)
+pub data LegibleExpr (sheet : List ℕ) : Expr → Type 0 where
+  legible_leaf : {l : Leaf} {p n : ℕ} → Legible (part sheet p n) l → LegibleExpr sheet (leaf l p n)
+  legible_unary : {op : Prefix} {p : ℕ} {e : Expr} → LegibleExpr sheet e → LegibleExpr sheet (unary op p e)
+  legible_binary : {op : Operator} {a b : Expr} → LegibleExpr sheet a → LegibleExpr sheet b → LegibleExpr sheet (binary op a b)
+  legible_choice : {a b c : Expr} → LegibleExpr sheet a → LegibleExpr sheet b → LegibleExpr sheet c → LegibleExpr sheet (choice a b c)
 
 -- the same of the expressions of a program
-pub data AllReadable (sheet : List ℕ) : List Expr → Type 0 where
-  readable_none : AllReadable sheet []
-  readable_more : {e : Expr} {es : List Expr} → Readable sheet e → AllReadable sheet es → AllReadable sheet (e ∷ es)
+pub data AllLegible (sheet : List ℕ) : List Expr → Type 0 where
+  legible_none : AllLegible sheet []
+  legible_more : {e : Expr} {es : List Expr} → LegibleExpr sheet e → AllLegible sheet es → AllLegible sheet (e ∷ es)
