@@ -10,7 +10,7 @@ use Rattle.lexer.specs.declared.refusal.Refusal.{Refusal}
 use Rattle.parser.specs.declared.reading.Read.{Read}
 use Rattle.parser.specs.declared.tree.TreeEntry.{TreeEntry}
 use Rattle.parser.specs.Syntax.{Expr, sizes}
-use Rattle.parser.specs.Table.{Listed}
+use Rattle.parser.specs.Table.{last_of, Listed}
 use Rattle.parser.specs.Reading.{Written, Sizes, Short, short_operators, short_frames, short_types}
 use Rattle.checker.specs.declared.finding.Finding.{Finding}
 use Rattle.checker.specs.declared.stage.Checked.{Checked}
@@ -58,12 +58,12 @@ checked_as sheet Γ ss c listed es sound written walk =
 -- what a check of such a table answers, by what its walk over the program came to, and by how a load that is too high is told
 module _ (s : Sizes) (sheet : List ℕ) (tree : List TreeEntry) (read : Read) (Γ : Meaning) (r : Result Checked TooHeavy) (m : Result Checked (Refusal × Read)) (listed : List Finding) (es : List TypeEntry)
     (Gives : TooHeavy → Refusal × Read → Type 0) (told : MatchResult r (λ c. m ≡ Ok c) (λ e. IsErrAnd m (Gives e))) (long : Short s → ⊥) (ordered : TreeInOrder (length sheet) tree read)
-    (sound : Sound Γ) (walk : (ss : List Expr) (ns : List Note) → Listed tree read.last ss → sizes ss ≤ 4096 → AllTyped sheet Γ ss ns → WalkedOrHeavy ns r listed es) where
+    (sound : Sound Γ) (walk : (ss : List Expr) (ns : List Note) → Listed tree (last_of read.used) ss → sizes ss ≤ 4096 → AllTyped sheet Γ ss ns → WalkedOrHeavy ns r listed es) where
   pub checks_heavy : is_err r ≡ true → (blanked : List Finding) → AllBlank blanked → ((e : TooHeavy) (d : Refusal × Read) → Gives e d → d ≡ (record { reason = HeavySheet; place = 0 }, read)) → Checks s sheet tree read Γ m blanked es
   checks_heavy heavy blanked blank says = go r m told walk heavy
     where
       go : (r : Result Checked TooHeavy) (m : Result Checked (Refusal × Read)) → MatchResult r (λ c. m ≡ Ok c) (λ e. IsErrAnd m (Gives e))
-          → ((ss : List Expr) (ns : List Note) → Listed tree read.last ss → sizes ss ≤ 4096 → AllTyped sheet Γ ss ns → WalkedOrHeavy ns r listed es) → is_err r ≡ true → Checks s sheet tree read Γ m blanked es
+          → ((ss : List Expr) (ns : List Note) → Listed tree (last_of read.used) ss → sizes ss ≤ 4096 → AllTyped sheet Γ ss ns → WalkedOrHeavy ns r listed es) → is_err r ≡ true → Checks s sheet tree read Γ m blanked es
       go (Ok c) m t w h = absurd (false≢true h)
       go (Err e) m t w h =
           let d = err_from_is_err_and m t in
@@ -74,7 +74,7 @@ module _ (s : Sizes) (sheet : List ℕ) (tree : List TreeEntry) (read : Read) (�
   checks_walked light = go r m told walk light
     where
       go : (r : Result Checked TooHeavy) (m : Result Checked (Refusal × Read)) → MatchResult r (λ c. m ≡ Ok c) (λ e. IsErrAnd m (Gives e))
-          → ((ss : List Expr) (ns : List Note) → Listed tree read.last ss → sizes ss ≤ 4096 → AllTyped sheet Γ ss ns → WalkedOrHeavy ns r listed es) → is_err r ≡ false → Checks s sheet tree read Γ m listed es
+          → ((ss : List Expr) (ns : List Note) → Listed tree (last_of read.used) ss → sizes ss ≤ 4096 → AllTyped sheet Γ ss ns → WalkedOrHeavy ns r listed es) → is_err r ≡ false → Checks s sheet tree read Γ m listed es
       go (Err e) m t w h = absurd (false≢true (sym h))
       go (Ok c) m t w h =
           subst (λ x. Checks s sheet tree read Γ x listed es) (sym t)

@@ -1,12 +1,12 @@
 -- Entries of a tree table, in order or not. Assumes nothing.
-use Rattle.std.proofs.Common.{◌≡◌, ℕ, ◌+◌, ◌<◌, ◌≤◌, Bool, true, List, Option, IfSome, Decides, ◌⊎◌, inl, inr, sym, refl, subst}
+use Rattle.std.proofs.Common.{◌≡◌, ℕ, zero, suc, ◌+◌, ◌<◌, ◌≤◌, Bool, true, List, Option, Decides, ◌⊎◌, inl, inr, sym, refl, subst, arith}
 use Rattle.parser.specs.declared.symbols.Leaf.{Leaf as AnyLeaf}
 use Rattle.parser.specs.declared.symbols.Prefix.{Prefix}
 use Rattle.parser.specs.declared.symbols.Operator.{Operator}
 use Rattle.parser.specs.declared.tree.TreeEntry.{TreeEntry}
 use Rattle.parser.specs.declared.tree.TreeEntry.TheVariants.{Leaf, Unary, Binary, Choice, Statement}
 use Rattle.parser.specs.Syntax.{Expr}
-use Rattle.parser.specs.Table.{Listed, no_more, one_more, Expression, is_leaf, is_unary, is_binary, is_choice, Part, Earlier, Proper, proper_leaf, proper_unary, proper_binary, proper_choice, proper_statement}
+use Rattle.parser.specs.Table.{last_of, Listed, one_more, Expression, is_leaf, is_unary, is_binary, is_choice, Part, Earlier, Proper, proper_leaf, proper_unary, proper_binary, proper_choice, proper_statement}
 
 -- a fact, where it is told
 pub says_yes : {P : Type 0} → P → Decides true P
@@ -55,6 +55,6 @@ module _ {sheet : ℕ} {table : List TreeEntry} {i : ℕ} where
   statement_told a d = (λ e. proper_statement (a.0 refl) (d.0 e), λ x. d.1 (statement_parts x).1)
 
 -- the last of the statements is one of the entries
-pub last_earlier : {table : List TreeEntry} {last : Option ℕ} {ss : List Expr} (used : ℕ) → Listed table last ss → IfSome last (λ i. i < used) → Earlier table used last
-last_earlier used no_more low = low
-last_earlier used (one_more {i = i} {j = j} is a b x y) low = (low, i, j, is)
+pub last_earlier : {table : List TreeEntry} {ss : List Expr} (used : ℕ) → Listed table (last_of used) ss → Earlier table used (last_of used)
+last_earlier zero h = tt
+last_earlier (suc n) (one_more {i = i} {j = j} is a b x y) = (omega arith, i, j, is)

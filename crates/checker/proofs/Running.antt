@@ -55,7 +55,7 @@ module _ {s : Sizes} {sheet : List ℕ} {tree : List TreeEntry} {read : Read} (h
   -- a check of what was read is refused for its load alone
   refused_heavy : {Γ : Meaning} {e : Refusal} (s' : Sizes) → s' ≡ s → Refuses s' sheet tree read Γ e → AnswersTo s Γ sheet (CheckRefused e)
   refused_heavy s' same (checks.short_table x) = absurd (h.0 _ _ (reading.short_table (subst Short same x)))
-  refused_heavy s' same (checks.damaged x y) = absurd (y (h.1.1.proper, last_earlier _ h.1.1.listed h.1.1.low))
+  refused_heavy s' same (checks.damaged x y) = absurd (y (h.1.1.proper, last_earlier _ h.1.1.listed))
   refused_heavy s' same (checks.too_heavy x y z) = too_heavy h.1.0 readable (λ ns typed. z h.1.0 ns h.1.1 typed)
 
   -- what the check of what was read comes to, its refusal said as a call's

@@ -7,7 +7,7 @@ use Rattle.registers.specs.Meaning.{Meaning}
 use Rattle.parser.specs.declared.reading.Read.{Read}
 use Rattle.parser.specs.declared.tree.TreeEntry.{TreeEntry}
 use Rattle.parser.specs.Syntax.{Expr}
-use Rattle.parser.specs.Table.{AllProper, Earlier}
+use Rattle.parser.specs.Table.{last_of, AllProper, Earlier}
 use Rattle.parser.specs.Reading.{Represents, Sizes, Short}
 use Rattle.checker.specs.declared.finding.Finding.{Finding}
 use Rattle.checker.specs.declared.stage.Checked.{Checked}
@@ -34,12 +34,12 @@ pub record CheckedAs (sheet : List ℕ) (Γ : Meaning) (ss : List Expr) (c : Che
   pub derived : c.count ≡ 0 → Derivation sheet Γ ss
   pub clean : Derivation sheet Γ ss → c.count ≡ 0
 
--- the entries of the tree in use are in order, and so is the reading: its last statement, if there is one, is one of them
+-- the entries of the tree in use are in order, and the last of them, if there is one, is a statement
 abbrev pub TreeInOrder : ℕ → List TreeEntry → Read → Type 0
-TreeInOrder sheet tree read = AllProper sheet tree read.used × Earlier tree read.used read.last
+TreeInOrder sheet tree read = AllProper sheet tree read.used × Earlier tree read.used (last_of read.used)
 
--- why a check is refused: a table under its size; else an entry in use, or a last statement, that is not in order; else a
--- load over 8,192
+-- why a check is refused: a table under its size; else an entry in use that is not in order, or a last one that is no
+-- statement; else a load over 8,192
 pub data Refuses (s : Sizes) (sheet : List ℕ) (tree : List TreeEntry) (read : Read) (Γ : Meaning) : Refusal → Type 0 where
   short_table : Short s → Refuses s sheet tree read Γ (record { reason = ShortTable; place = 0 })
   damaged : (Short s → ⊥) → (TreeInOrder (length sheet) tree read → ⊥) → Refuses s sheet tree read Γ (record { reason = Damaged; place = 0 })

@@ -70,7 +70,7 @@ pub fn check<F: Register, S: Register>(
     if tables.is_short(tree.len()) {
         return Err((Reason::ShortTable.at(0), reading));
     }
-    if !tree_in_order(sheet.len(), tree, reading.used(), reading.last()) {
+    if !tree_in_order(sheet.len(), tree, &reading) {
         return Err((Reason::Damaged.at(0), reading));
     }
     let source = Source {

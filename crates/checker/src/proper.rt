@@ -1,8 +1,10 @@
 // Whether the entries of a tree table are in order.
 ghost use Rattle.std.specs.Prelude.{◌≡◌, ◌+◌, ◌<◌, ◌≤◌, Decides};
 ghost use Rattle.parser.specs.Table.{AllProper, Earlier, Expression, Part, Proper, tree_at};
+ghost use Rattle.checker.specs.Checks.{TreeInOrder};
 ghost use Rattle.checker.specs.Entries.{StatementEntry};
 
+use parser::reading::Read;
 use parser::tree::TreeEntry;
 use types::compare::run_below;
 
@@ -82,9 +84,9 @@ fn proper(sheet_len: usize, tree: &[TreeEntry], used: usize) -> bool
     (0..used).all(|i| is_proper(sheet_len, tree, i))
 }
 
-// The same, and the last statement, if there is one, is one of these entries.
-pub fn tree_in_order(sheet_len: usize, tree: &[TreeEntry], used: usize, last: Option<usize>) -> bool
-    ensures { Decides result (AllProper sheet_len tree.now used × Earlier tree.now used last) }
+// Whether the entries in use are in order, and the last of them, if there is one, is a statement.
+pub fn tree_in_order(sheet_len: usize, tree: &[TreeEntry], reading: &Read) -> bool
+    ensures { Decides result (TreeInOrder sheet_len tree.now reading.now) }
 {
-    proper(sheet_len, tree, used) && is_earlier(tree, used, last)
+    proper(sheet_len, tree, reading.used()) && is_earlier(tree, reading.used(), reading.last())
 }

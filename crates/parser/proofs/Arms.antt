@@ -22,7 +22,7 @@ use Rattle.parser.specs.Holds.{Operand, Progress, Within, Fits, Ends, AfterAll, 
 use Rattle.parser.proofs.Corner.{left_atom}
 use Rattle.parser.proofs.Counting.{sizes_more}
 use Rattle.parser.proofs.Turns.{never, wants_prefix, at_infix, at_question, at_leaf, at_open, at_prefix, at_close, at_end, at_colon, Closer, not_closed}
-use Rattle.parser.proofs.TreeTables.{kept_set, set_at, tree_kept, listed_kept, below, earlier, before_more}
+use Rattle.parser.proofs.TreeTables.{last_more, kept_set, set_at, tree_kept, listed_kept, below, earlier, before_more}
 
 -- a token that is an expression by itself: one entry more
 pub step_leaf : {sheet : ℕ} {table : List TreeEntry} {fs : List OperatorEntry} {used : ℕ} {last : Option ℕ} {b : List Expr} {ps : List Part} (l : AnyLeaf) (t : Token) → t.symbol ≡ Leaf l → used < length table → Within sheet t → Before sheet table fs used last b ps × (used ≡ sizes b + spent ps) → Next sheet (set table used (LeafEntry l t.place t.len)) fs (record { used = used + 1; last = last; position = After used }) want b ps t
@@ -110,7 +110,7 @@ step_end {sheet} {table} {fs} {gs} {o} {last} {k} {b} {ps} {e} t is held left ro
               low = omega arith;
               proper = more.proper;
             };
-            stage = at_start (omega (arith, sizes_more b e));
+            stage = at_start (omega (arith, sizes_more b e)) (sym (last_more o.used));
           };
           same = λ ts. at_end b k e t ts is;
         }

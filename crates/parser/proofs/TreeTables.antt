@@ -1,13 +1,16 @@
 -- What a write above the entries in use leaves. Assumes nothing.
-use Rattle.std.proofs.Common.{◌≡◌, ℕ, ◌+◌, ◌<◌, ◌≤◌, List, length, set, IfSome, Some, None, Option, sym, ◌∙◌, subst, below_more, arith, length-set, get_or-set_other, get_or-set_same}
+use Rattle.std.proofs.Common.{◌≡◌, ℕ, suc, ◌+◌, ◌<◌, ◌≤◌, List, length, set, IfSome, Some, None, Option, sym, ap, ◌∙◌, subst, below_more, arith, length-set, get_or-set_other, get_or-set_same}
 use Rattle.std.proofs.lemmas.Option.{IfSome_then}
 use Rattle.parser.specs.declared.tree.TreeEntry.{TreeEntry}
 use Rattle.parser.specs.declared.tree.TreeEntry.TheVariants.{Blank}
 use Rattle.parser.specs.declared.tree.OperatorEntry.{OperatorEntry}
 use Rattle.parser.specs.Syntax.{Expr}
-use Rattle.parser.specs.Table.{tree_at, Tree, leaf_at, unary_at, binary_at, choice_at, Listed, no_more, one_more, Expression, is_leaf, is_unary, is_binary, is_choice, Part as Below, Earlier, Proper, proper_leaf, proper_unary, proper_binary, proper_choice, proper_statement, AllProper}
+use Rattle.parser.specs.Table.{tree_at, last_of, Tree, leaf_at, unary_at, binary_at, choice_at, Listed, no_more, one_more, Expression, is_leaf, is_unary, is_binary, is_choice, Part as Below, Earlier, Proper, proper_leaf, proper_unary, proper_binary, proper_choice, proper_statement, AllProper}
 use Rattle.parser.specs.Machine.{Part}
 use Rattle.parser.specs.Holds.{Kept, Frames, no_frame, an_infix, a_prefix, an_otherwise, a_bracket, a_consequent, Before}
+
+pub last_more : (n : ℕ) → last_of (n + 1) ≡ Some n
+last_more n = let e : n + 1 ≡ suc n = omega arith in ap last_of e
 
 pub kept_set : (n : ℕ) (table : List TreeEntry) (y : TreeEntry) → Kept n table (set table n y)
 kept_set n table y = record { long = length-set table n y; same = λ i l. get_or-set_other table n i y Blank (omega arith) }

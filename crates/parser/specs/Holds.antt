@@ -12,7 +12,7 @@ use Rattle.parser.specs.declared.builder.Position.{Position}
 use Rattle.parser.specs.declared.builder.Position.TheVariants.{Start, Want, After}
 use Rattle.parser.specs.Syntax.{Expr, size, sizes}
 use Rattle.parser.specs.Grammar.{follow, left, level, binding, prefix, atom, Program}
-use Rattle.parser.specs.Table.{tree_at, Tree, Listed, AllProper}
+use Rattle.parser.specs.Table.{tree_at, last_of, Tree, Listed, AllProper}
 use Rattle.parser.specs.Machine.{right_infix, right_prefix, otherwise, Part, right, bracket, consequent, State, start, want, after, wants, Completes, Ready, Same}
 
 -- the operand that has just ended: its index, and how many entries of the table are in use
@@ -114,15 +114,16 @@ abbrev pub Lower : ℕ → List OperatorEntry → Type 0
 Lower least [] = Unit {0}
 Lower least (f ∷ fs) = (awaits f < least) ⊎ ((i : ℕ) → completion f i ≡ None)
 
--- where the reader is, and that the n entries in use are those of the statements b and of the expressions after them
-pub data Stage (table : List TreeEntry) (n : ℕ) (b : List Expr) : Position → State → List Part → Type 0 where
-  at_start : n ≡ sizes b → Stage table n b Start start []
-  at_want : {ps : List Part} → n ≡ sizes b + spent ps → Stage table n b Want want ps
-  at_after : {ps : List Part} {i : ℕ} {e : Expr} → i < n → Tree table i e → n ≡ sizes b + (spent ps + size e) → Stage table n b (After i) (after atom e) ps
+-- where the reader is, and that the n entries in use are those of the statements b and of the expressions after them; at the
+-- start of a statement the last entry in use is the last statement
+pub data Stage (table : List TreeEntry) (n : ℕ) (last : Option ℕ) (b : List Expr) : Position → State → List Part → Type 0 where
+  at_start : n ≡ sizes b → last ≡ last_of n → Stage table n last b Start start []
+  at_want : {ps : List Part} → n ≡ sizes b + spent ps → Stage table n last b Want want ps
+  at_after : {ps : List Part} {i : ℕ} {e : Expr} → i < n → Tree table i e → n ≡ sizes b + (spent ps + size e) → Stage table n last b (After i) (after atom e) ps
 
 pub record Holds (sheet : ℕ) (table : List TreeEntry) (fs : List OperatorEntry) (p : Progress) (s : State) (b : List Expr) (ps : List Part) : Type 0 where
   pub before : Before sheet table fs p.used p.last b ps
-  pub stage : Stage table p.used b p.position s ps
+  pub stage : Stage table p.used p.last b p.position s ps
 
 -- the configuration that t leads to, and it is held
 pub record Next (sheet : ℕ) (table : List TreeEntry) (fs : List OperatorEntry) (p : Progress) (s : State) (b : List Expr) (ps : List Part) (t : Token) : Type 0 where

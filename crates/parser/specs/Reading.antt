@@ -1,5 +1,5 @@
 -- What `read` answers. Assumes nothing.
-use Rattle.std.specs.Prelude.{◌≡◌, ℕ, ◌<◌, ◌≤◌, List, [], ◌∷◌, ◌++◌, map, length, IfSome, Ok, Err, Result}
+use Rattle.std.specs.Prelude.{◌≡◌, ℕ, ◌<◌, ◌≤◌, List, [], ◌∷◌, ◌++◌, map, length, Ok, Err, Result}
 use Rattle.lexer.specs.Faults.{FirstFault}
 use Rattle.lexer.specs.Reading.{Lexes, finished}
 use Rattle.lexer.specs.Scanning.{Tok, text, TokenFault}
@@ -12,7 +12,7 @@ use Rattle.parser.specs.declared.reading.Read.{Read}
 use Rattle.parser.specs.Symbols.{symbol_of}
 use Rattle.parser.specs.Syntax.{Expr, sizes}
 use Rattle.parser.specs.Grammar.{Program, Begins}
-use Rattle.parser.specs.Table.{Listed, AllProper}
+use Rattle.parser.specs.Table.{last_of, Listed, AllProper}
 
 -- a token of a sheet, as the grammar has it
 abbrev pub token_of : List ℕ → Tok → Token
@@ -27,13 +27,12 @@ pub record Written (sheet : List ℕ) (ss : List Expr) : Type 0 where
   pub lexes : Lexes sheet 0 lexed finished
   pub program : Program (tokens sheet lexed) ss
 
--- the sheet is the program ss and no other, and the first entries of the table, as many as are used, are that program; as
--- many entries are in use as the program has expressions and statements
+-- The sheet is the program ss and no other, and the first entries of the table, as many as are used, are that program, the
+-- last of them its last statement. As many entries are in use as the program has expressions and statements.
 pub record Represents (sheet : List ℕ) (tree : List TreeEntry) (read : Read) (ss : List Expr) : Type 0 where
   pub written : Written sheet ss
   pub only : (other : List Expr) → Written sheet other → other ≡ ss
-  pub listed : Listed tree read.last ss
-  pub low : IfSome read.last (λ i. i < read.used)
+  pub listed : Listed tree (last_of read.used) ss
   pub exact : read.used ≡ sizes ss
   pub proper : AllProper (length sheet) tree read.used
   pub small : sizes ss ≤ 4096

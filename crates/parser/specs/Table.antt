@@ -1,5 +1,5 @@
 -- Which program a tree table stands for, and which entries are in order. Assumes nothing.
-use Rattle.std.specs.Prelude.{◌≡◌, ℕ, ◌+◌, ◌<◌, ◌≤◌, List, [], ◌∷◌, ◌++◌, Some, None, Option, IfSome, slice_index_or}
+use Rattle.std.specs.Prelude.{◌≡◌, ℕ, zero, suc, ◌+◌, ◌<◌, ◌≤◌, List, [], ◌∷◌, ◌++◌, Some, None, Option, IfSome, slice_index_or}
 use Rattle.parser.specs.declared.symbols.Leaf.{Leaf as AnyLeaf}
 use Rattle.parser.specs.declared.symbols.Prefix.{Prefix}
 use Rattle.parser.specs.declared.symbols.Operator.{Operator}
@@ -10,6 +10,11 @@ use Rattle.parser.specs.Syntax.{Expr, leaf, unary, binary, choice}
 -- the entry at an index; past the end it is blank
 abbrev pub tree_at : List TreeEntry → ℕ → TreeEntry
 tree_at table i = slice_index_or table i Blank
+
+-- the index of the last of the first n entries, if there is one
+abbrev pub last_of : ℕ → Option ℕ
+last_of zero = None
+last_of (suc n) = Some n
 
 -- the entry at i, with its parts, is the expression e
 pub data Tree (table : List TreeEntry) : ℕ → Expr → Type 0 where

@@ -206,7 +206,7 @@ impl<'a> Builder<'a> {
         ensures { (sheet : List ℕ) (ls : List Tok) → end ≡ length sheet → Lexes sheet 0 ls finished → length ls ≤ 4096 → self.now.used ≤ length ls → Sofar (length sheet) (tokens sheet ls) self.now.tree.now (held self.now.parts) (progress self.now position) → Builds sheet self.now.tree.now result }
     {
         match position {
-            Position::Start => Ok(Read::new(self.used, self.last)),
+            Position::Start => Ok(Read::new(self.used)),
             _ => Err(Reason::NoProgram.at(end)),
         }
     }

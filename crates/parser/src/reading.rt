@@ -1,18 +1,19 @@
 // What a call of `read` gives.
 ghost use Rattle.std.specs.Prelude.{◌≡◌};
+ghost use Rattle.parser.specs.Table.{last_of};
 
-// The program that a tree table holds: how many entries are in use, and the index of the last statement, if there is one.
+// The program that a tree table holds: how many entries are in use. A program ends with a statement, so the last entry in use
+// is its last statement.
 #[derive(Drop)]
 pub struct Read {
     used: usize,
-    last: Option<usize>,
 }
 
 impl Read {
-    pub(crate) fn new(used: usize, last: Option<usize>) -> Read
-        ensures { result ≡ record { used = used; last = last } }
+    pub(crate) fn new(used: usize) -> Read
+        ensures { result ≡ record { used = used } }
     {
-        Read { used, last }
+        Read { used }
     }
 
     // How many entries of the tree table are in use.
@@ -24,8 +25,8 @@ impl Read {
 
     // The index of the last statement; `None` where there is none.
     pub fn last(&self) -> Option<usize>
-        ensures { result ≡ self.now.last }
+        ensures { result ≡ last_of self.now.used }
     {
-        self.last
+        self.used.checked_sub(1)
     }
 }

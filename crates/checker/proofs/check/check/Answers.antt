@@ -1,7 +1,6 @@
-use Rattle.std.proofs.Common.{◌≡◌, ℕ, ◌≤◌, List, Option, sym, refl, ◌∙◌, subst, rules}
+use Rattle.std.proofs.Common.{◌≤◌, List, sym, refl, ◌∙◌, subst, rules}
 use Rattle.std.proofs.lemmas.Bool.Decides.{not_from_Decides}
-use Rattle.parser.specs.declared.tree.TreeEntry.{TreeEntry}
-use Rattle.parser.specs.Table.{AllProper, Earlier, Listed}
+use Rattle.parser.specs.Table.{last_of, Listed}
 use Rattle.parser.specs.Syntax.{Expr, sizes}
 use Rattle.checker.specs.Rules.{Note, AllTyped}
 use Rattle.checker.specs.Walks.{WalkedOrHeavy}
@@ -10,15 +9,12 @@ use Rattle.checker.proofs.Checking.{enough, checks_heavy, checks_walked}
 use Rattle.checker.proofs.check.check.Goals as goal
 use Rattle.checker.proofs.check.check.Goals.{then-is_err, else-is_err}
 
-counted : {sheet used : ℕ} {last : Option ℕ} {u : ℕ} {l : Option ℕ} {tree : List TreeEntry} → used ≡ u → last ≡ l → AllProper sheet tree used × Earlier tree used last → AllProper sheet tree u × Earlier tree u l
-counted {sheet} {last = last} {u = u} {tree = tree} e f h = subst (λ k. AllProper sheet tree u × Earlier tree u k) f (subst (λ n. AllProper sheet tree n × Earlier tree n last) e h)
-
 pub returns-then-is_short-clause-checks : goal.returns-then-is_short-clause-checks
 returns-then-is_short-clause-checks g c = rw c.at.ensures (short_table (c.is_short.ensures.0 c.if-is_short.true), refl, c.blank_out.ensures)
 
 pub returns-then-not-tree_in_order-clause-checks : goal.returns-then-not-tree_in_order-clause-checks
 returns-then-not-tree_in_order-clause-checks g c = rw c.at-then-not-tree_in_order.ensures (
-  damaged (not_from_Decides _ c.is_short.ensures c.if-is_short.false) (λ p. not_from_Decides _ c.tree_in_order.ensures c.if-not-tree_in_order.true (counted (sym c.used.ensures) (sym c.last.ensures) p)),
+  damaged (not_from_Decides _ c.is_short.ensures c.if-is_short.false) (not_from_Decides _ c.tree_in_order.ensures c.if-not-tree_in_order.true),
   refl,
   c.blank_out.ensures,
 )
@@ -27,11 +23,11 @@ pub returns-clause-checks : goal.returns-clause-checks
 returns-clause-checks g c =
     let long = not_from_Decides _ c.is_short.ensures c.if-is_short.false in
     let e = enough _ long in
-    let ordered = counted c.used.ensures c.last.ensures (c.tree_in_order.ensures.0 c.if-not-tree_in_order.false) in
+    let ordered = c.tree_in_order.ensures.0 c.if-not-tree_in_order.false in
     let sound = g.F.Register.sound c.args.first.now in
     let r = c.walk_over-walked.result in
-    let walk : (ss : List Expr) (ns : List Note) → Listed c.args.tree.now c.args.reading.last ss → sizes ss ≤ 4096 → AllTyped c.args.sheet.now (g.F.Register.meaning c.args.first.now) ss ns
-    → WalkedOrHeavy ns r c.walk_over-walked.new.findings c.walk_over-walked.new.types = λ ss ns listed small typed. c.walk_over-walked.ensures ss ns (subst (λ i. Listed c.args.tree.now i ss) (sym c.last-2.ensures) listed) small typed sound e.0 e.1 e.2 c.blank_out.ensures in
+    let walk : (ss : List Expr) (ns : List Note) → Listed c.args.tree.now (last_of c.args.reading.used) ss → sizes ss ≤ 4096 → AllTyped c.args.sheet.now (g.F.Register.meaning c.args.first.now) ss ns
+    → WalkedOrHeavy ns r c.walk_over-walked.new.findings c.walk_over-walked.new.types = λ ss ns listed small typed. c.walk_over-walked.ensures ss ns (subst (λ i. Listed c.args.tree.now i ss) (sym c.last.ensures) listed) small typed sound e.0 e.1 e.2 c.blank_out.ensures in
     elim c.if-is_err.branch [
       | then-is_err w ↦
           rw w.findings-is
