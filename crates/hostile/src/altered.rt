@@ -210,12 +210,15 @@ pub fn tell_shared(rt: &HostRuntime, desk: &mut Desk) -> anyhow::Result<()> {
 pub fn tell_long(rt: &HostRuntime, desk: &mut Desk) -> anyhow::Result<()> {
     let mut text = vec![in rt.alloc(); b'0'; 16_350]?;
     let zero = Ground::new(rt.alloc(), 8, Leaf::Number, &text)?;
-    zero.tell(rt, desk, "shared sums of a long zero", Shape::Sum, 12)?;
-    for (slot, byte) in text.iter_mut().zip(b"1.") {
-        *slot = *byte;
+    zero.tell(rt, desk, "shared choices of a long zero", Shape::Choice, 8)?;
+    for (name, head) in [("a long one", b"1."), ("a long exponent", b"0e")] {
+        for (slot, byte) in text.iter_mut().zip(head) {
+            *slot = *byte;
+        }
+        let number = Ground::new(rt.alloc(), 8, Leaf::Number, &text)?;
+        println!(rt; "over {name}:")?;
+        number.tell(rt, desk, "shared choices", Shape::Choice, 8)?;
     }
-    let one = Ground::new(rt.alloc(), 8, Leaf::Number, &text)?;
-    one.tell(rt, desk, "shared sums of a long one", Shape::Sum, 12)?;
     text.fill(b'a');
     let name = Ground::new(rt.alloc(), 8, Leaf::Name, &text)?;
     name.tell(rt, desk, "shared sums of a long name", Shape::Sum, 12)?;

@@ -6,7 +6,7 @@ use checker::stage::Checked;
 use std::alloc::{AllocError, Global};
 use types::entries::TypeEntry;
 
-// The sheet that `SMALL` is has the types true, 1, "a" and 1 | "a". The unit of "a" is entry 0.
+// Its types are true, 1, "a" and 1 | "a". The unit of "a" is entry 0.
 const SMALL: &[u8] = b"true ? 1 : 'a';";
 
 // Where the type of the first expression stands.
@@ -45,52 +45,50 @@ fn function(first: usize, count: usize) -> TypeEntry {
     TypeEntry::Function { first, count }
 }
 
-fn tell_entries(rt: &HostRuntime, desk: &mut Desk) -> anyhow::Result<()> {
-    let most = usize::MAX;
+fn union_of(first: usize, count: usize) -> TypeEntry {
+    TypeEntry::Union { first, count }
+}
+
+fn list(element: usize) -> TypeEntry {
+    TypeEntry::List { element }
+}
+
+fn pair(head: usize, tail: usize) -> TypeEntry {
+    TypeEntry::Pair { head, tail }
+}
+
+fn tell_parts(rt: &HostRuntime, desk: &mut Desk) -> anyhow::Result<()> {
     let cases = [
         ("blank", 0, TypeEntry::Unused),
         ("no unit", 0, TypeEntry::Number),
         ("another unit", 0, TypeEntry::CodeUnit(7)),
-        ("blank", HEAD, TypeEntry::Unused),
-        ("a unit", HEAD, TypeEntry::CodeUnit(97)),
-        ("any", HEAD, TypeEntry::Any),
-        ("the string of a unit", HEAD, text(0, 1)),
-        ("the empty string from far", HEAD, text(most, 0)),
-        ("a string past the table", HEAD, text(most, most)),
-        ("a function past the table", HEAD, function(0, most)),
-        ("a function of a unit", HEAD, function(0, 0)),
-        ("a list of a unit", HEAD, TypeEntry::List { element: 0 }),
-        (
-            "a list of a later entry",
-            HEAD,
-            TypeEntry::List { element: HEAD },
-        ),
-        (
-            "a pair of later entries",
-            HEAD,
-            TypeEntry::Pair {
-                head: most,
-                tail: most,
-            },
-        ),
-        (
-            "a union of none",
-            HEAD,
-            TypeEntry::Union { first: 0, count: 0 },
-        ),
-        (
-            "a union with a unit",
-            HEAD,
-            TypeEntry::Union { first: 0, count: 1 },
-        ),
-        (
-            "a list that is not in use",
-            4000,
-            TypeEntry::List { element: most },
-        ),
+        ("a list that is not in use", 4000, list(usize::MAX)),
     ];
     for (name, index, entry) in cases {
         tell_one(rt, desk, name, index, entry)?;
+    }
+    Ok(())
+}
+
+fn tell_heads(rt: &HostRuntime, desk: &mut Desk) -> anyhow::Result<()> {
+    let most = usize::MAX;
+    let cases = [
+        ("blank", TypeEntry::Unused),
+        ("a unit", TypeEntry::CodeUnit(97)),
+        ("any", TypeEntry::Any),
+        ("the string of a unit", text(0, 1)),
+        ("the empty string from far", text(most, 0)),
+        ("a string past the table", text(most, most)),
+        ("a function past the table", function(0, most)),
+        ("a function of a unit", function(0, 0)),
+        ("a list of a unit", list(0)),
+        ("a list of a later entry", list(HEAD)),
+        ("a pair of later entries", pair(most, most)),
+        ("a union of none", union_of(0, 0)),
+        ("a union with a unit", union_of(0, 1)),
+    ];
+    for (name, entry) in cases {
+        tell_one(rt, desk, name, HEAD, entry)?;
     }
     Ok(())
 }
@@ -111,16 +109,10 @@ impl Shape {
             return self.bottom();
         };
         match self {
-            Shape::Pairs => TypeEntry::Pair {
-                head: below,
-                tail: below,
-            },
-            Shape::Lists => TypeEntry::List { element: below },
+            Shape::Pairs => pair(below, below),
+            Shape::Lists => list(below),
             Shape::Functions => function(0, below),
-            Shape::Unions => TypeEntry::Union {
-                first: 0,
-                count: index,
-            },
+            Shape::Unions => union_of(0, index),
             // units in the lower half, strings of them all above it
             Shape::Strings if index < 4080 => TypeEntry::CodeUnit(97),
             Shape::Strings => text(0, 4080),
@@ -170,7 +162,8 @@ fn tell_shape(
 }
 
 pub fn tell(rt: &HostRuntime, desk: &mut Desk) -> anyhow::Result<()> {
-    tell_entries(rt, desk)?;
+    tell_parts(rt, desk)?;
+    tell_heads(rt, desk)?;
     let sheet = strings(rt.alloc())?;
     let Ok(reading) = desk.read(&sheet) else {
         bail!("a sheet was refused over full tables");

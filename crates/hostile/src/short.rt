@@ -31,46 +31,18 @@ fn tell_sizes(rt: &HostRuntime, desk: &mut Desk, name: &str, sizes: Sizes) -> an
 }
 
 fn tell_all_sizes(rt: &HostRuntime, desk: &mut Desk) -> anyhow::Result<()> {
-    let Sizes {
-        tree,
-        operators,
-        frames,
-        types,
-    } = FULL;
-    let short = [
-        (
-            "the tree",
-            Sizes {
-                tree: tree - 1,
-                ..FULL
-            },
-        ),
-        (
-            "the first stack",
-            Sizes {
-                operators: operators - 1,
-                ..FULL
-            },
-        ),
-        (
-            "the second stack",
-            Sizes {
-                frames: frames - 1,
-                ..FULL
-            },
-        ),
-        (
-            "the types",
-            Sizes {
-                types: types - 1,
-                ..FULL
-            },
-        ),
-    ];
-    for (name, sizes) in short {
-        tell_sizes(rt, desk, name, sizes)?;
-    }
-    Ok(())
+    let mut sizes = FULL;
+    sizes.tree = FULL.tree - 1;
+    tell_sizes(rt, desk, "the tree", sizes)?;
+    sizes = FULL;
+    sizes.operators = FULL.operators - 1;
+    tell_sizes(rt, desk, "the first stack", sizes)?;
+    sizes = FULL;
+    sizes.frames = FULL.frames - 1;
+    tell_sizes(rt, desk, "the second stack", sizes)?;
+    sizes = FULL;
+    sizes.types = FULL.types - 1;
+    tell_sizes(rt, desk, "the types", sizes)
 }
 
 // A short table is told before all else.
