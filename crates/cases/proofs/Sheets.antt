@@ -7,6 +7,7 @@ use Rattle.lexer.specs.Strings.{Plain}
 use Rattle.lexer.specs.declared.kinds.Kind.TheVariants as kind
 use Rattle.types.specs.Values.{Decimal}
 use Rattle.building.specs.Literals.{Numeral}
+use Rattle.registers.specs.Library.{library}
 use Rattle.parser.specs.declared.symbols.Operator.TheVariants.{Add, Less}
 use Rattle.checker.specs.Rules.{typed_none}
 use Rattle.checker.specs.Findings as findings
@@ -86,4 +87,5 @@ sheets = (
   λ Γ. chosen_told Γ chosen_read,
   λ Γ. lesser_told Γ lesser_read,
   λ Γ e. unbound_told Γ e unbound_read,
+  unbound_told library refl unbound_read,
 )

@@ -5,6 +5,7 @@ use Rattle.types.specs.Types.{Ty, any, number, number_literal, boolean, Meet}
 use Rattle.types.specs.Examples.{ListsMeet}
 use Rattle.building.specs.Literals.{Numeral}
 use Rattle.registers.specs.Meaning.{Meaning}
+use Rattle.registers.specs.Library.{library}
 use Rattle.parser.specs.Syntax.{Expr}
 use Rattle.parser.specs.Reading.{Sizes, Short}
 use Rattle.checker.specs.declared.finding.Kind.{Kind}
@@ -35,7 +36,7 @@ pub record Told (sheet : List ℕ) (Γ : Meaning) (ts : List Ty) (found : List F
 abbrev pub at : ℕ → Kind → List Finding
 at p k = record { kind = k; place = p } ∷ []
 
--- in every scope; `par` where no such name is bound
+-- in every scope, so with the library too; `par` where no such name is bound, as in the library
 abbrev pub Sheets : Type 0
 Sheets =
     ((Γ : Meaning) → Told [] Γ [] [])
@@ -43,6 +44,7 @@ Sheets =
     × ((Γ : Meaning) → Told (codes "(true ? 1 : \"a\") + 2;") Γ (number ∷ []) [])
     × ((Γ : Meaning) → Told (codes "\"5\" < 3;") Γ (boolean ∷ []) (at 6 Clash))
     × ((Γ : Meaning) → Γ (codes "par") ≡ None → Told (codes "par;") Γ (any ∷ []) (at 0 UnknownName))
+    × Told (codes "par;") library (any ∷ []) (at 0 UnknownName)
 
 -- the two texts write numbers, and whatever numbers they write, their literals meet
 abbrev pub SameNumber : List ℕ → List ℕ → Type 0
