@@ -10,7 +10,8 @@ use parser::tables::{ENTRIES, TYPES, Tables};
 use parser::tree::{OperatorEntry, TreeEntry, WalkFrame};
 use registers::empty::Empty;
 use registers::library::Library;
-use std::alloc::{AllocError, Global};
+use std::alloc::AllocError;
+use std::time::{CpuClock, Duration};
 use types::entries::TypeEntry;
 
 // How many findings are listed.
@@ -32,16 +33,20 @@ pub const FULL: Sizes = Sizes {
     types: TYPES,
 };
 
-// Tables of full size, and the count of calls that were made over them.
+// Tables of full size, and the calls that were made over them.
 #[derive(Drop)]
-pub struct Desk {
+pub struct Desk<'a> {
+    rt: &'a HostRuntime,
     pub tree: Vec<TreeEntry>,
     pub operators: Vec<OperatorEntry>,
     pub frames: Vec<WalkFrame>,
     pub types: Vec<TypeEntry>,
     pub findings: Vec<Finding>,
     pub lent: Sizes,
+    // how many calls were made
     pub calls: usize,
+    // the processor time of the slowest of them since this was last asked
+    longest: Duration,
 }
 
 // The first entries of a table, as many as are lent.
@@ -50,9 +55,11 @@ fn first_of<T>(table: &mut [T], lent: usize) -> &mut [T] {
     &mut table[..len]
 }
 
-impl Desk {
-    pub fn new(heap: Global) -> Result<Self, AllocError> {
+impl<'a> Desk<'a> {
+    pub fn new(rt: &'a HostRuntime) -> Result<Self, AllocError> {
+        let heap = rt.alloc();
         Ok(Desk {
+            rt,
             tree: vec![in heap; TreeEntry::Blank; ENTRIES]?,
             operators: vec![in heap; OperatorEntry::Blank; ENTRIES]?,
             frames: vec![in heap; WalkFrame::Blank; ENTRIES]?,
@@ -60,7 +67,29 @@ impl Desk {
             findings: vec![in heap; BLANK; FINDINGS]?,
             lent: FULL,
             calls: 0,
+            longest: Duration::ZERO,
         })
+    }
+
+    // The processor time that was used so far, or none where the clock could not be read.
+    fn time(&self) -> Option<Duration> {
+        self.rt.thread_cpu_time().ok()
+    }
+
+    // Counts a call that began at a time. Where the clock could not be read, it is a slow one.
+    fn count(&mut self, start: Option<Duration>) {
+        let took = start
+            .zip(self.time())
+            .map_or(Duration::MAX, |(start, end)| end.saturating_sub(start));
+        self.longest = self.longest.max(took);
+        self.calls = self.calls.saturating_add(1);
+    }
+
+    // The processor time of the slowest call since this was last asked.
+    pub fn longest(&mut self) -> Duration {
+        let longest = self.longest;
+        self.longest = Duration::ZERO;
+        longest
     }
 
     // Makes the tables clean again.
@@ -73,25 +102,27 @@ impl Desk {
     }
 
     pub fn read(&mut self, sheet: &[u8]) -> Result<Read, Refusal> {
-        self.calls = self.calls.saturating_add(1);
+        let start = self.time();
         let tree = first_of(&mut self.tree, self.lent.tree);
         let mut tables = Tables {
             operators: first_of(&mut self.operators, self.lent.operators),
             frames: first_of(&mut self.frames, self.lent.frames),
             types: first_of(&mut self.types, self.lent.types),
         };
-        read(sheet, tree, &mut tables)
+        let answer = read(sheet, tree, &mut tables);
+        self.count(start);
+        answer
     }
 
     pub fn check(&mut self, reading: Read, sheet: &[u8]) -> Result<Checked, (Refusal, Read)> {
-        self.calls = self.calls.saturating_add(1);
+        let start = self.time();
         let tree = first_of(&mut self.tree, self.lent.tree);
         let mut tables = Tables {
             operators: first_of(&mut self.operators, self.lent.operators),
             frames: first_of(&mut self.frames, self.lent.frames),
             types: first_of(&mut self.types, self.lent.types),
         };
-        check(
+        let answer = check(
             reading,
             sheet,
             tree,
@@ -99,12 +130,16 @@ impl Desk {
             &Empty,
             &mut tables,
             &mut self.findings,
-        )
+        );
+        self.count(start);
+        answer
     }
 
     pub fn type_of(&mut self, checked: &Checked, number: usize) -> Result<usize, Refusal> {
-        self.calls = self.calls.saturating_add(1);
-        type_of(checked, first_of(&mut self.types, self.lent.types), number)
+        let start = self.time();
+        let answer = type_of(checked, first_of(&mut self.types, self.lent.types), number);
+        self.count(start);
+        answer
     }
 
     // Writes one entry of the tree.

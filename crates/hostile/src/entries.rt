@@ -190,7 +190,7 @@ fn finding(draw: &mut Draw) -> Finding {
     Finding { kind, place }
 }
 
-impl Desk {
+impl Desk<'_> {
     // Fills the tree with entries of any kind.
     pub fn draw_tree(&mut self, draw: &mut Draw, len: usize) {
         for (index, slot) in self.tree.iter_mut().enumerate() {
