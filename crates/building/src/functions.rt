@@ -1,4 +1,5 @@
 // Function types made in the type table.
+ghost use Rattle.std.specs.Prelude.{◌≤◌, Decides};
 ghost use Rattle.building.specs.Made.{Kept, MakesFunction};
 
 use crate::put::put;
@@ -6,6 +7,13 @@ use types::entries::{Root, TypeEntry};
 
 // How many parameters a function type can have.
 const PARAMETERS: usize = 8;
+
+// Whether a function type can have so many parameters.
+fn is_few(parameters: usize) -> bool
+    ensures { Decides result (parameters ≤ 8) }
+{
+    parameters <= PARAMETERS
+}
 
 // The function type of some parameters and a result, whose parts stand below `used`.
 // None where there are over eight parameters, or where they and the result do not fit in from `used` on.
@@ -18,7 +26,7 @@ pub fn function_of(
     ensures made { MakesFunction types.old types.new used parameters.now res result }
     ensures kept { Kept types.old types.new used }
 {
-    if parameters.len() > PARAMETERS {
+    if !is_few(parameters.len()) {
         return None;
     }
     let result_at = put(types, used, parameters)?;

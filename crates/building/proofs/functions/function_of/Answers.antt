@@ -4,8 +4,8 @@ use Rattle.building.proofs.Held.{hold_count}
 use Rattle.building.proofs.FunctionsMade.{function_made}
 use Rattle.building.proofs.functions.function_of.Goals as goal
 
-pub returns-then-parameters-gt-PARAMETERS-clause-made : goal.returns-then-parameters-gt-PARAMETERS-clause-made
-returns-then-parameters-gt-PARAMETERS-clause-made c ts t hs ht = inl (omega (arith, hold_count hs))
+pub returns-then-not-is_few-clause-made : goal.returns-then-not-is_few-clause-made
+returns-then-not-is_few-clause-made c ts t hs ht = let all = hold_count hs in inl (grind arith)
 
 pub returns-in_err-result_at-clause-made : goal.returns-in_err-result_at-clause-made
 returns-in_err-result_at-clause-made c ts t hs ht = let all = hold_count hs in grind (arith, common_steps, inr, c.in_err-result_at.ensures.written)
