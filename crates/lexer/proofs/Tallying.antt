@@ -8,7 +8,8 @@ use Rattle.lexer.specs.declared.reasons.Reason.TheVariants.{LineFeed, ManyTokens
 use Rattle.lexer.specs.Reading.{Lexes, done, refused, token, Ending, finished, Given, Finished, Stopped}
 use Rattle.lexer.specs.declared.refusal.Refusal.{Refusal}
 use Rattle.lexer.specs.Scanning.{Tok, text, nth, next_here, next_later, FeedBetween, BrokenLine, broken_line, TokenFault, Clean}
-use Rattle.lexer.specs.Tallies.{tok_of, joined, EndsAt, OverAt, Seen, Whole, Tallied, Breaks, Counted, Counts}
+use Rattle.lexer.specs.Counting.{tok_of, joined, EndsAt, OverAt, Seen, Whole, Tallied, Breaks}
+use Rattle.lexer.specs.Tallies.{Counted, Counts}
 use Rattle.lexer.specs.declared.read.Token.{Token}
 use Rattle.lexer.specs.declared.scan.Tally.{Tally}
 use Rattle.lexer.specs.declared.scan.Scanner.{Scanner}

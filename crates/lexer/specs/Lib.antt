@@ -18,4 +18,5 @@ pub mod Founds
 pub mod Reading
 pub mod Faults
 pub mod Scanning
+pub mod Counting
 pub mod Tallies

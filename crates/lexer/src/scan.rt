@@ -2,7 +2,8 @@
 ghost use Rattle.std.specs.Prelude.{◌≡◌, ℕ, ◌+◌, ◌≤◌, List, length, Decides};
 ghost use Rattle.lexer.specs.Reading.{Given, Finished, Reads};
 ghost use Rattle.lexer.specs.Scanning.{FeedBetween, Scans};
-ghost use Rattle.lexer.specs.Tallies.{Breaks, Tallied, Counted, Starts, Counts};
+ghost use Rattle.lexer.specs.Counting.{Breaks, Tallied};
+ghost use Rattle.lexer.specs.Tallies.{given, Counted, Starts, Counts};
 
 use crate::read::{Reader, Token};
 use crate::reasons::Reason;
@@ -102,7 +103,7 @@ impl<'a> Scanner<'a> {
 
     // How many tokens were given.
     pub fn count(&self) -> usize
-        ensures { result ≡ self.now.tally.count }
+        ensures { result ≡ given self.now }
     {
         self.tally.count
     }

@@ -1,7 +1,7 @@
 use Rattle.std.proofs.Common.{◌≡◌, ◌+◌, Some, sym, ap, ◌∙◌, subst, arith}
 use Rattle.std.specs.Option.{is_some}
 use Rattle.std.proofs.lemmas.Bool.{both_ways}
-use Rattle.lexer.specs.Tallies.{Breaks}
+use Rattle.lexer.specs.Counting.{Breaks}
 use Rattle.lexer.proofs.Steps.{onward}
 use Rattle.lexer.proofs.Tallying.{Recorded, here, nowhere, no_line, still_recorded, tallied}
 use Rattle.lexer.proofs.scan.Tally.add.Goals as goal
