@@ -3,15 +3,12 @@
 
 mod telling;
 
-use checker::finding::BLANK;
-use parser::tables::ENTRIES;
+use anyhow::bail;
+use checker::finding::Finding;
 use std::io::Read;
 use std::{env, fs};
-use tables::Tables;
+use tables::{Tables, findings_list};
 use telling::Sheet;
-
-// No sheet has more findings: each of its expressions has a token of its own, and two findings at most.
-const FINDINGS: usize = 2 * ENTRIES;
 
 fn bytes_of(rt: &HostRuntime, name: &str) -> anyhow::Result<Vec<u8>> {
     if name != "-" {
@@ -22,18 +19,39 @@ fn bytes_of(rt: &HostRuntime, name: &str) -> anyhow::Result<Vec<u8>> {
     Ok(bytes)
 }
 
+// Checks one sheet, and prints what is found. Of one that cannot be read it says so beside the findings, and answers false.
+fn check_one(
+    rt: &HostRuntime,
+    name: &str,
+    tables: &mut Tables,
+    findings: &mut [Finding],
+) -> anyhow::Result<bool> {
+    let bytes = match bytes_of(rt, name) {
+        Ok(bytes) => bytes,
+        Err(error) => {
+            eprintln!(rt; "{name}: {error}")?;
+            return Ok(false);
+        }
+    };
+    let sheet = Sheet {
+        name,
+        bytes: &bytes,
+    };
+    let outcome = tables.check(sheet.bytes, findings);
+    sheet.tell(rt, outcome.answer, findings)?;
+    Ok(true)
+}
+
 fn main(rt: HostRuntime) -> anyhow::Result<()> {
     let mut tables = Tables::new(rt.alloc())?;
-    let mut findings = vec![in rt.alloc(); BLANK; FINDINGS]?;
+    let mut findings = findings_list(rt.alloc())?;
+    let mut all_read = true;
     for argument in env::args(&rt)?.skip(1) {
-        let name = argument.as_str();
-        let bytes = bytes_of(&rt, name)?;
-        let sheet = Sheet {
-            name,
-            bytes: &bytes,
-        };
-        let outcome = tables.check(sheet.bytes, &mut findings);
-        sheet.tell(&rt, outcome.answer, &findings)?;
+        let read = check_one(&rt, argument.as_str(), &mut tables, &mut findings)?;
+        all_read = all_read && read;
+    }
+    if !all_read {
+        bail!("not every sheet could be read");
     }
     Ok(())
 }

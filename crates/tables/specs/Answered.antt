@@ -1,9 +1,13 @@
 -- What comes of a check of a sheet, with the library as the first register. Assumes nothing.
-use Rattle.std.specs.Prelude.{ℕ, List}
+use Rattle.std.specs.Prelude.{ℕ, ◌≤◌, List, length}
 use Rattle.types.specs.declared.entries.TypeEntry.{TypeEntry}
 use Rattle.registers.specs.Library.{library}
+use Rattle.registers.specs.Meaning.{Meaning}
+use Rattle.parser.specs.Syntax.{Expr}
 use Rattle.parser.specs.Reading.{Sizes}
 use Rattle.checker.specs.declared.finding.Finding.{Finding}
+use Rattle.checker.specs.Rules.{Note, AllTyped, conditions, types}
+use Rattle.checker.specs.Findings.{Findings, weigh}
 use Rattle.checker.specs.Runs.{AnswersTo, Left}
 use Rattle.tables.specs.declared.Outcome.{Outcome}
 
@@ -18,3 +22,9 @@ pub record AnsweredOver (s : Sizes) (sheet : List ℕ) (o : Outcome) (listed : L
 
 abbrev pub Answered : List ℕ → Outcome → List Finding → List TypeEntry → Type 0
 Answered = AnsweredOver full
+
+-- n slots hold the findings of every program whose load is not too high
+abbrev pub HoldsAll : ℕ → Type 0
+HoldsAll n =
+    (sheet : List ℕ) (Γ : Meaning) (ss : List Expr) (ns : List Note) (found : List Finding) →
+    AllTyped sheet Γ ss ns → weigh (types ns) ≤ 8192 → Findings (conditions ns) found → length found ≤ n

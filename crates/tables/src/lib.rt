@@ -1,11 +1,11 @@
 // The tables that a check is lent, of the sizes that it asks for: made once, and used for sheet after sheet.
 #![tactic(auto)]
 
-ghost use Rattle.std.specs.Prelude.{◌≡◌, length, vec_len};
-ghost use Rattle.tables.specs.Answered.{AnsweredOver};
+ghost use Rattle.std.specs.Prelude.{◌≡◌, length, vec_len, IfOk};
+ghost use Rattle.tables.specs.Answered.{AnsweredOver, HoldsAll};
 
 use checker::calls::{Answer, Call};
-use checker::finding::Finding;
+use checker::finding::{BLANK, Finding};
 use checker::run::run;
 use checker::stage::Checked;
 use parser::tables;
@@ -53,6 +53,16 @@ fn check_over(
     );
     let [answer] = said;
     Outcome { answer, checked }
+}
+
+// No sheet that is checked has more findings: each expression has two at most, and a type that weighs 1 at least.
+const FINDINGS: usize = 2 * TYPES;
+
+// A blank list, as long as the findings of any sheet are many.
+pub fn findings_list(heap: Global) -> Result<Vec<Finding>, AllocError>
+    ensures { IfOk result (λ listed. HoldsAll (vec_len listed)) }
+{
+    Ok(vec![in heap; BLANK; FINDINGS]?)
 }
 
 #[derive(Drop)]

@@ -1,0 +1,8 @@
+-- How many findings a program has at most. Assumes nothing.
+use Rattle.std.proofs.Common.{ℕ, ◌≤◌, arith}
+use Rattle.checker.proofs.Logging.{few_found}
+use Rattle.checker.proofs.Notes.{few_by_load}
+use Rattle.tables.specs.Answered.{HoldsAll}
+
+pub holds_all : (n : ℕ) → 16384 ≤ n → HoldsAll n
+holds_all n long sheet Γ ss ns found typed light findings = omega (arith, few_by_load typed, few_found findings, light, long)
