@@ -13,7 +13,7 @@ use Rattle.parser.specs.Syntax.{Expr}
 use Rattle.parser.specs.Lending.{Lent, sizes_of}
 use Rattle.parser.specs.declared.tables.Tables.{Tables}
 use Rattle.parser.specs.Reading as reading
-use Rattle.parser.specs.Reading.{Sizes, Short, Fault, Reads, Represents, Written}
+use Rattle.parser.specs.Reading.{Sizes, Short, Reads}
 use Rattle.checker.specs.declared.calls.Call.{Call}
 use Rattle.checker.specs.declared.calls.Call.TheVariants.{Check as CheckCall}
 use Rattle.checker.specs.declared.calls.Answer.{Answer}

@@ -121,8 +121,8 @@ VisitsToken sheet Γ l p n w v r = (table : List TreeEntry) (i : ℕ) → tree_a
 -- an expression has been visited by what its entry x is, where that is no token's
 abbrev pub WaitsForParts : TreeEntry → Walk → Walk → Type 0
 WaitsForParts x w v =
-    (sheet : List ℕ) (Γ : Meaning) (table : List TreeEntry) (i : ℕ) (f : First Finding) (s : Store) → tree_at table i ≡ x → ((l : Leaf) (p n : ℕ) → x ≡ entry.Leaf l p n → ⊥)
-    → Onward sheet Γ table (Expression i) (state w f s) (state v f s) (Ok tt)
+    (sheet : List ℕ) (Γ : Meaning) (table : List TreeEntry) (i : ℕ) (f : First Finding) (s : Store) → tree_at table i ≡ x
+    → ((l : Leaf) (p n : ℕ) → x ≡ entry.Leaf l p n → ⊥) → Onward sheet Γ table (Expression i) (state w f s) (state v f s) (Ok tt)
 
 -- all is noted, or its load is too high
 abbrev pub Told : List Note → State → Result (Unit {0}) TooHeavy → Type 0

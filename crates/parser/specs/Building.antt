@@ -73,23 +73,28 @@ TurnsOrDies sheet b r s ss ps t = MatchOption r (Dead s ss ps t) (λ q. Turns sh
 
 -- what t comes to where an operand is wanted
 abbrev pub TakesOperand : Builder → Token → Builder → Option Position → Type 0
-TakesOperand old t new r = (sheet : ℕ) (ss : List Expr) (ps : List Part) → Within sheet t → WantsOperand sheet old ss ps → TurnsOrDies sheet new r want ss ps t
+TakesOperand old t new r =
+    (sheet : ℕ) (ss : List Expr) (ps : List Part) → Within sheet t → WantsOperand sheet old ss ps → TurnsOrDies sheet new r want ss ps t
 
 -- what t comes to after the operand at an index, which binds as tightly as k
 abbrev pub TakesAfter : Builder → ℕ → ℕ → Token → Builder → Option Position → Type 0
-TakesAfter old at k t new r = (sheet : ℕ) (ss : List Expr) (ps : List Part) (e : Expr) → HasOperand sheet old at k ss ps e → TurnsOrDies sheet new r (after k e) ss ps t
+TakesAfter old at k t new r =
+    (sheet : ℕ) (ss : List Expr) (ps : List Part) (e : Expr) → HasOperand sheet old at k ss ps e
+    → TurnsOrDies sheet new r (after k e) ss ps t
 
 -- what t comes to where it goes on as f from the operand at an index
 abbrev pub GoesOn : Builder → ℕ → Follow → Builder → Type 0
 GoesOn old at f new =
-    (sheet : ℕ) (ss : List Expr) (ps : List Part) (k : ℕ) (e : Expr) (t : Token) → follow t.symbol ≡ Some f → wants ps ≤ level f → left f ≤ k
-    → HasOperand sheet old at k ss ps e → Turns sheet new Want (after k e) ss ps t
+    (sheet : ℕ) (ss : List Expr) (ps : List Part) (k : ℕ) (e : Expr) (t : Token) → follow t.symbol ≡ Some f → wants ps ≤ level f
+    → left f ≤ k → HasOperand sheet old at k ss ps e → Turns sheet new Want (after k e) ss ps t
 
 -- what t comes to in any configuration
 abbrev pub Takes : Builder → Position → Token → Builder → Option Position → Type 0
-Takes old q t new r = (sheet : ℕ) (s : State) (ss : List Expr) (ps : List Part) → Within sheet t → Stands sheet old q s ss ps → TurnsOrDies sheet new r s ss ps t
+Takes old q t new r =
+    (sheet : ℕ) (s : State) (ss : List Expr) (ps : List Part) → Within sheet t → Stands sheet old q s ss ps
+    → TurnsOrDies sheet new r s ss ps t
 
--- what is built where all tokens of the sheet are taken, and it is so long
+-- what is built where all tokens of a sheet of this length are taken
 abbrev pub Finishes : Builder → Position → ℕ → Result Read Refusal → Type 0
 Finishes b q end r =
     (sheet : List ℕ) (ls : List Tok) → end ≡ length sheet → Lexes sheet 0 ls finished → length ls ≤ 4096 → b.used ≤ length ls
