@@ -96,14 +96,6 @@ counted None n = None
 abbrev pub SameTable : OpenUnion → OpenUnion → Type 0
 SameTable u v = (v.slots.ghost_name ≡ u.slots.ghost_name) × (v.parts.now ≡ u.parts.now)
 
--- the open union u becomes v with one more type, or there is no room
-abbrev pub AddsTo : OpenUnion → TypeEntry → OpenUnion → Option (Unit {0}) → Type 0
-AddsTo u e v r = Adds u.parts.now u.slots.now v.slots.now u.count e (counted r v.count)
-
--- the same of all that the type e, which is not `any`, brings
-abbrev pub AddsAllTo : OpenUnion → TypeEntry → OpenUnion → Option (Unit {0}) → Type 0
-AddsAllTo u e v r = AddsAll u.parts.now u.slots.now v.slots.now u.count e (counted r v.count)
-
 -- the open union of the entries hs, which stand right after ps in a table, closed, is m
 abbrev pub Closes : List TypeEntry → List TypeEntry → Root → Type 0
 Closes ps hs m = (ts xs : Types) (rest : List TypeEntry) → AllInForm ts → Brings ts xs → ((t : Ty) × In t xs) → Open ps hs xs → UnionMade (ps ++ (hs ++ rest)) (length ps) ts m
@@ -127,14 +119,6 @@ abbrev pub AddsParts : List TypeEntry → List TypeEntry → List TypeEntry → 
 AddsParts ps fs hs side r =
     (ts qs xs : Types) → Hold ps (length ps) hs ts → AllInForm ts → OwnParts side ts qs → Brings qs xs → (In any xs → ⊥)
     → Opened ps fs xs r
-
--- the open union u becomes v with all that the part of the type e brings, or there is no room
-abbrev pub AddsPartTo : OpenUnion → TypeEntry → Side → OpenUnion → Option (Unit {0}) → Type 0
-AddsPartTo u e side v r = AddsPart u.parts.now u.slots.now v.slots.now u.count e side (counted r v.count)
-
--- the empty open union u becomes v with all that the parts of the entries hs bring, or there is no room
-abbrev pub AddsPartsTo : OpenUnion → List TypeEntry → Side → OpenUnion → Option (Unit {0}) → Type 0
-AddsPartsTo u hs side v r = u.count ≡ 0 → AddsParts u.parts.now v.slots.now hs side (counted r v.count)
 
 -- the entries xs stand in fs from used on, and r is where they end, or they do not fit in
 abbrev pub Puts : List TypeEntry → ℕ → List TypeEntry → Option ℕ → Type 0

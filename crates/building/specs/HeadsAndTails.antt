@@ -22,9 +22,3 @@ pub data OwnParts (s : Side) : Types → Types → Type 0 where
 pub data PartOf (s : Side) : Ty → Ty → Type 0 where
   part_own : {t p : Ty} → OwnPart s t p → PartOf s t p
   part_union : {t p : Ty} {ts ps : Types} → OwnParts s (t and ts) ps → UnionOf ps p → PartOf s (union t ts) p
-
-abbrev pub HeadPart : Ty → Ty → Type 0
-HeadPart = PartOf Head
-
-abbrev pub TailPart : Ty → Ty → Type 0
-TailPart = PartOf Tail

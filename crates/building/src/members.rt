@@ -1,6 +1,6 @@
 // Open unions.
 ghost use Rattle.std.specs.Prelude.{◌≡◌, take};
-ghost use Rattle.building.specs.Entries.{AddsAllTo, AddsTo, Closes, Place, SameTable, SaysIn, entry_rank};
+ghost use Rattle.building.specs.Entries.{Adds, AddsAll, Closes, Place, SameTable, SaysIn, counted, entry_rank};
 
 use crate::equality::same;
 use types::entries::{Root, TypeEntry};
@@ -58,7 +58,7 @@ impl<'p, 's> OpenUnion<'p, 's> {
     // Adds the type e, unless it is one of the members. None where there is no room for it.
     fn add_member(&mut self, e: TypeEntry) -> Option<()>
         ensures lent { SameTable self.old self.new }
-        ensures added { AddsTo self.old e self.new result }
+        ensures added { Adds self.old.parts.now self.old.slots.now self.new.slots.now self.old.count e (counted result self.new.count) }
     {
         let count = self.count;
         let members = self.members();
@@ -79,7 +79,7 @@ impl<'p, 's> OpenUnion<'p, 's> {
     // Adds the type e, or its members where it is a union. None where there is no room.
     pub fn add(&mut self, e: TypeEntry) -> Option<()>
         ensures lent { SameTable self.old self.new }
-        ensures added { AddsAllTo self.old e self.new result }
+        ensures added { AddsAll self.old.parts.now self.old.slots.now self.new.slots.now self.old.count e (counted result self.new.count) }
     {
         let TypeEntry::Union { first, count } = e else {
             return self.add_member(e);

@@ -1,5 +1,6 @@
 // The head part and the tail part of a type.
-ghost use Rattle.building.specs.Entries.{AddsPartTo, AddsPartsTo, SameTable, SaysAnyPart, SaysPartAny};
+ghost use Rattle.std.specs.Prelude.{◌≡◌};
+ghost use Rattle.building.specs.Entries.{AddsPart, AddsParts, SameTable, SaysAnyPart, SaysPartAny, counted};
 ghost use Rattle.building.specs.Made.{GivesPart, Kept, MakesPart};
 
 use crate::members::OpenUnion;
@@ -49,7 +50,7 @@ impl<'p, 's> OpenUnion<'p, 's> {
     // Adds the part on a side of the type e, if it has one. None where there is no room.
     fn add_part(&mut self, e: TypeEntry, side: Side) -> Option<()>
         ensures lent { SameTable self.old self.new }
-        ensures added { AddsPartTo self.old e side self.new result }
+        ensures added { AddsPart self.old.parts.now self.old.slots.now self.new.slots.now self.old.count e side (counted result self.new.count) }
     {
         let parts = self.parts;
         let a = Root {
@@ -66,7 +67,7 @@ impl<'p, 's> OpenUnion<'p, 's> {
     // Adds the parts of some types to an empty one. None where there is no room.
     fn add_parts(&mut self, members: &[TypeEntry], side: Side) -> Option<()>
         ensures lent { SameTable self.old self.new }
-        ensures added { AddsPartsTo self.old members.now side self.new result }
+        ensures added { self.old.count ≡ 0 → AddsParts self.old.parts.now self.new.slots.now members.now side (counted result self.new.count) }
     {
         for member in members {
             self.add_part(*member, side)?;

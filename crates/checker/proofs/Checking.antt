@@ -15,9 +15,9 @@ use Rattle.parser.specs.Reading.{Written, Sizes, Short, short_operators, short_f
 use Rattle.checker.specs.declared.finding.Finding.{Finding}
 use Rattle.checker.specs.declared.stage.Checked.{Checked}
 use Rattle.checker.specs.Conditions.{AllMet}
-use Rattle.checker.specs.Rules.{Note, AllTyped, conditions}
+use Rattle.checker.specs.Rules.{Note, AllTyped, conditions, types}
 use Rattle.checker.specs.declared.store.TooHeavy.{TooHeavy}
-use Rattle.checker.specs.Findings.{AllBlank}
+use Rattle.checker.specs.Findings.{Findings, AllBlank, weigh, Judged}
 use Rattle.checker.specs.Checks.{CheckedAs, TreeInOrder, too_heavy, Checks}
 use Rattle.checker.specs.Walks.{WalkedAs, WalkedOrHeavy}
 use Rattle.checker.proofs.Typings.{one_typing_of_all}
@@ -32,28 +32,25 @@ enough s h = (
   ⊎_elim (λ x. absurd (h (short_types x))) (λ x. x) (cases_lt s.of_types 8192),
 )
 
+-- a typing of light load and its findings are the program's
+judged : {sheet : List ℕ} {Γ : Meaning} {ss : List Expr} {ns : List Note} {fs : List Finding} → AllTyped sheet Γ ss ns → weigh (types ns) ≤ 8192 → Findings (conditions ns) fs → Judged sheet Γ ss ns fs
+judged {ns = ns} t light f = record {
+  typed = t;
+  alone = λ ms h. one_typing_of_all h t;
+  load = light;
+  findings = f;
+  derived = λ none. record { notes = ns; typed = t; all_met = all_met_if_none f none };
+  clean = λ d. none_if_all_met f (subst (λ ms. AllMet (conditions ms)) (one_typing_of_all d.typed t) d.all_met);
+  same_types = λ d. ap types (one_typing_of_all d.typed t);
+}
+
 -- what a walk left is what the program is checked as
 pub checked_as : (sheet : List ℕ) (Γ : Meaning) (ss : List Expr) (c : Checked) (listed : List Finding) (es : List TypeEntry) → Sound Γ → Written sheet ss
     → ((ns : List Note) → AllTyped sheet Γ ss ns → WalkedAs ns c listed es) → CheckedAs sheet Γ ss c listed es
 checked_as sheet Γ ss c listed es sound written walk =
     let t = typing_exists_law sheet Γ ss sound written in
     let w = walk t.0 t.1 in
-    record {
-      notes = t.0;
-      typed = t.1;
-      alone = λ ms h. one_typing_of_all h t.1;
-      load = w.load;
-      found = w.found;
-      findings = w.findings;
-      count = w.count;
-      list = w.list;
-      expressions = w.expressions;
-      light = w.light;
-      types_held = w.types_held;
-      in_order = w.in_order;
-      derived = λ z. record { notes = t.0; typed = t.1; all_met = all_met_if_none w.findings (sym w.count ∙ z) };
-      clean = λ d. w.count ∙ none_if_all_met w.findings (subst (λ ms. AllMet (conditions ms)) (one_typing_of_all d.typed t.1) d.all_met);
-    }
+    record { notes = t.0; found = w.found; judged = judged t.1 w.load w.findings; recorded = w.recorded }
 
 -- what a check of such a table answers, by what its walk over the program came to, and by how a load that is too high is told
 module _ (s : Sizes) (sheet : List ℕ) (tree : List TreeEntry) (read : Read) (Γ : Meaning) (r : Result Checked TooHeavy) (m : Result Checked (Refusal × Read)) (listed : List Finding) (es : List TypeEntry)

@@ -13,7 +13,7 @@ use Rattle.parser.specs.Syntax.{Expr}
 use Rattle.parser.specs.Lending.{Lent, sizes_of}
 use Rattle.parser.specs.declared.tables.Tables.{Tables}
 use Rattle.parser.specs.Reading as reading
-use Rattle.parser.specs.Reading.{Sizes, Short, Fault, Reads, Represents, Written}
+use Rattle.parser.specs.Reading.{Sizes, Short, Reads}
 use Rattle.checker.specs.declared.calls.Call.{Call}
 use Rattle.checker.specs.declared.calls.Call.TheVariants.{Check as CheckCall}
 use Rattle.checker.specs.declared.calls.Answer.{Answer}
@@ -22,7 +22,6 @@ use Rattle.checker.specs.declared.finding.Finding.{Finding}
 use Rattle.checker.specs.declared.run.Refused.{Refused}
 use Rattle.checker.specs.declared.run.Refused.TheVariants.{Read as Unread, Check}
 use Rattle.checker.specs.declared.stage.Checked.{Checked}
-use Rattle.checker.specs.Rules.{types}
 use Rattle.checker.specs.Checks as checks
 use Rattle.checker.specs.Checks.{CheckedAs, Refuses, Checks}
 use Rattle.checker.specs.Runs.{Readable, Law, AnswersTo, read_refused, too_heavy, checked, Answers, sheet_of, Left, unread_left, unchecked_left, checked_left, Lawful}
@@ -78,19 +77,7 @@ not_read s sheet tree Γ Gives (Err e) m d h t says is =
     let k : IsErrAnd {T = Read} (Err d) (Gives e) = subst (λ x. IsErrAnd x (Gives e)) is t in subst (λ y. AnswersTo s Γ sheet (refusing y)) (sym (says e d k)) (read_refused h)
 
 law_of : {sheet : List ℕ} {Γ : Meaning} {ss : List Expr} {c : Checked} {listed : List Finding} {es : List TypeEntry} → CheckedAs sheet Γ ss c listed es → Law sheet Γ ss c.count c.expressions
-law_of k = record {
-  notes = k.notes;
-  typed = k.typed;
-  alone = k.alone;
-  load = k.load;
-  found = k.found;
-  findings = k.findings;
-  counted = k.count;
-  numbered = k.expressions;
-  derived = k.derived;
-  clean = k.clean;
-  same_types = λ d. ap types (k.alone d.notes d.typed);
-}
+law_of k = record { notes = k.notes; found = k.found; judged = k.judged; counted = k.recorded.count; numbered = k.recorded.expressions }
 
 answers : (s : Sizes) (Γ : Meaning) (sheet : List ℕ) (r : Result Checked Refused) (listed : List Finding) (es : List TypeEntry) → ReadsAndChecks s Γ sheet r listed es → AnswersTo s Γ sheet (saying r)
 answers s Γ sheet (Ok c) listed es p = checked p.0 p.1 (law_of p.2)

@@ -68,15 +68,17 @@ walked ns w c n e u t k = record {
   load = omega (arith, k.load, k.within);
   found = t.found;
   findings = t.findings;
-  count = n ∙ t.kept.counts;
-  list = t.kept.holds;
-  expressions = e ∙ k.count;
-  light = omega (arith, u, e, k.light, k.load);
-  types_held = heads;
-  in_order = (
-    λ i l. stands_orderly (k.filled i (omega arith) (omega (arith, u))),
-    λ i l. let h = heads i (omega (arith, e, k.count)) in (is_orderly h, is_type h),
-  );
+  recorded = record {
+    count = n ∙ t.kept.counts;
+    list = t.kept.holds;
+    expressions = e ∙ k.count;
+    light = omega (arith, u, e, k.light, k.load);
+    types_held = heads;
+    in_order = (
+      λ i l. stands_orderly (k.filled i (omega arith) (omega (arith, u))),
+      λ i l. let h = heads i (omega (arith, e, k.count)) in (is_orderly h, is_type h),
+    );
+  };
 }
   where
     heads : TypesHeld (entries w.store) c.used (types ns)

@@ -11,28 +11,26 @@ use Rattle.parser.specs.Table.{last_of, AllProper, Earlier}
 use Rattle.parser.specs.Reading.{Represents, Sizes, Short}
 use Rattle.checker.specs.declared.finding.Finding.{Finding}
 use Rattle.checker.specs.declared.stage.Checked.{Checked}
-use Rattle.checker.specs.Rules.{Note, AllTyped, conditions, types}
-use Rattle.checker.specs.Findings.{Findings, blank, FirstOf, AllBlank, Derivation, weigh}
+use Rattle.checker.specs.Rules.{Note, AllTyped, types}
+use Rattle.checker.specs.Findings.{blank, FirstOf, AllBlank, weigh, Judged}
 use Rattle.checker.specs.Orders.{IsInOrder, TypesHeld}
 
--- The program ss in the scope Γ: it has one typing; c counts its unmet conditions and its expressions, the list has the
--- first findings, the table the types of the expressions by their numbers, with all their parts among the entries in use,
--- which are no more than the load counts; and there is no finding exactly where there is a derivation.
-pub record CheckedAs (sheet : List ℕ) (Γ : Meaning) (ss : List Expr) (c : Checked) (listed : List Finding) (es : List TypeEntry) : Type 0 where
-  pub notes : List Note
-  pub typed : AllTyped sheet Γ ss notes
-  pub alone : (ns : List Note) → AllTyped sheet Γ ss ns → ns ≡ notes
-  pub load : weigh (types notes) ≤ 8192
-  pub found : List Finding
-  pub findings : Findings (conditions notes) found
+-- c counts the findings and the expressions; the list has the first findings, the table the types of the expressions by their
+-- numbers, with all their parts among the entries in use, which are no more than the load counts
+pub record Recorded (notes : List Note) (found : List Finding) (c : Checked) (listed : List Finding) (es : List TypeEntry) : Type 0 where
   pub count : c.count ≡ length found
   pub list : FirstOf blank listed found
   pub expressions : c.expressions ≡ length (types notes)
   pub light : c.used + c.expressions ≤ weigh (types notes)
   pub types_held : TypesHeld es c.used (types notes)
   pub in_order : IsInOrder es c.used c.expressions
-  pub derived : c.count ≡ 0 → Derivation sheet Γ ss
-  pub clean : Derivation sheet Γ ss → c.count ≡ 0
+
+-- the typing and the findings of the program ss in the scope Γ are recorded
+pub record CheckedAs (sheet : List ℕ) (Γ : Meaning) (ss : List Expr) (c : Checked) (listed : List Finding) (es : List TypeEntry) : Type 0 where
+  pub notes : List Note
+  pub found : List Finding
+  pub judged : Judged sheet Γ ss notes found
+  pub recorded : Recorded notes found c listed es
 
 -- the entries of the tree in use are in order, and the last of them, if there is one, is a statement
 abbrev pub TreeInOrder : ℕ → List TreeEntry → Read → Type 0

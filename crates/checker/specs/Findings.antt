@@ -1,5 +1,5 @@
 -- Findings, derivations and load. Assumes nothing.
-use Rattle.std.specs.Prelude.{◌≡◌, ℕ, ◌+◌, ◌<◌, List, [], ◌∷◌, length, slice_index_or}
+use Rattle.std.specs.Prelude.{◌≡◌, ℕ, ◌+◌, ◌<◌, ◌≤◌, List, [], ◌∷◌, length, slice_index_or}
 use Rattle.types.specs.Types.{Ty}
 use Rattle.building.specs.Weights.{weight}
 use Rattle.registers.specs.Meaning.{Meaning}
@@ -8,7 +8,7 @@ use Rattle.checker.specs.declared.finding.Kind.{Kind}
 use Rattle.checker.specs.declared.finding.Kind.TheVariants.{Blank, Clash, UnknownName}
 use Rattle.checker.specs.declared.finding.Finding.{Finding}
 use Rattle.checker.specs.Conditions.{Condition, fits, compares, bound, Met, AllMet}
-use Rattle.checker.specs.Rules.{Note, AllTyped, conditions}
+use Rattle.checker.specs.Rules.{Note, AllTyped, conditions, types}
 
 -- the number of each kind of finding
 abbrev pub number_of : Kind → ℕ
@@ -49,3 +49,14 @@ pub record Derivation (sheet : List ℕ) (Γ : Meaning) (es : List Expr) : Type 
 abbrev pub weigh : List Ty → ℕ
 weigh [] = 0
 weigh (t ∷ ts) = weight t + weigh ts
+
+-- The program ss in the scope Γ has one typing, these notes, whose load is no more than 8,192, and these findings. There is
+-- none exactly where there is a derivation, and the types of every derivation are those of the notes.
+pub record Judged (sheet : List ℕ) (Γ : Meaning) (ss : List Expr) (notes : List Note) (found : List Finding) : Type 0 where
+  pub typed : AllTyped sheet Γ ss notes
+  pub alone : (ns : List Note) → AllTyped sheet Γ ss ns → ns ≡ notes
+  pub load : weigh (types notes) ≤ 8192
+  pub findings : Findings (conditions notes) found
+  pub derived : found ≡ [] → Derivation sheet Γ ss
+  pub clean : Derivation sheet Γ ss → found ≡ []
+  pub same_types : (d : Derivation sheet Γ ss) → types d.notes ≡ types notes

@@ -1,5 +1,5 @@
 -- What holds of typings and findings. Assumes nothing.
-use Rattle.std.specs.Prelude.{◌≡◌, ℕ, List, length}
+use Rattle.std.specs.Prelude.{◌≡◌, ℕ, List, []}
 use Rattle.std.specs.List.{AllByRecursion}
 use Rattle.types.specs.Types.{Ty}
 use Rattle.building.specs.Forms.{InForm}
@@ -29,5 +29,5 @@ TypesInForm = (sheet : List ℕ) (Γ : Meaning) (es : List Expr) (ns : List Note
 abbrev pub FindingsTell : Type 0
 FindingsTell =
     ((cs : List Condition) (fs gs : List Finding) → Findings cs fs → Findings cs gs → fs ≡ gs)
-    × ((cs : List Condition) (fs : List Finding) → Findings cs fs → length fs ≡ 0 → AllMet cs)
-    × ((cs : List Condition) (fs : List Finding) → Findings cs fs → AllMet cs → length fs ≡ 0)
+    × ((cs : List Condition) (fs : List Finding) → Findings cs fs → fs ≡ [] → AllMet cs)
+    × ((cs : List Condition) (fs : List Finding) → Findings cs fs → AllMet cs → fs ≡ [])

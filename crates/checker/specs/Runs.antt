@@ -14,8 +14,8 @@ use Rattle.checker.specs.declared.calls.Answer.{Answer}
 use Rattle.checker.specs.declared.calls.Answer.TheVariants.{Blank, ReadRefused, CheckRefused, Checked as Counted}
 use Rattle.checker.specs.declared.finding.Finding.{Finding}
 use Rattle.checker.specs.declared.stage.Checked.{Checked}
-use Rattle.checker.specs.Rules.{Note, AllTyped, conditions, types}
-use Rattle.checker.specs.Findings.{Findings, AllBlank, Derivation, weigh}
+use Rattle.checker.specs.Rules.{Note, AllTyped, types}
+use Rattle.checker.specs.Findings.{AllBlank, weigh, Judged}
 use Rattle.checker.specs.Checks.{CheckedAs}
 
 -- the sheet breaks no rule of reading, and is the program ss and no other
@@ -24,20 +24,13 @@ pub record Readable (s : Sizes) (sheet : List ℕ) (ss : List Expr) : Type 0 whe
   pub written : Written sheet ss
   pub only : (other : List Expr) → Written sheet other → other ≡ ss
 
--- the program ss in the scope Γ has one typing; so many of its conditions are unmet, and none exactly where there is a
--- derivation, whose types are then those of the typing; so many expressions it has
+-- the program ss in the scope Γ has so many findings and so many expressions
 pub record Law (sheet : List ℕ) (Γ : Meaning) (ss : List Expr) (count expressions : ℕ) : Type 0 where
   pub notes : List Note
-  pub typed : AllTyped sheet Γ ss notes
-  pub alone : (ns : List Note) → AllTyped sheet Γ ss ns → ns ≡ notes
-  pub load : weigh (types notes) ≤ 8192
   pub found : List Finding
-  pub findings : Findings (conditions notes) found
+  pub judged : Judged sheet Γ ss notes found
   pub counted : count ≡ length found
   pub numbered : expressions ≡ length (types notes)
-  pub derived : count ≡ 0 → Derivation sheet Γ ss
-  pub clean : Derivation sheet Γ ss → count ≡ 0
-  pub same_types : (d : Derivation sheet Γ ss) → types d.notes ≡ types notes
 
 -- what a check of a sheet answers, by the tables' sizes and the scope
 pub data AnswersTo (s : Sizes) (Γ : Meaning) (sheet : List ℕ) : Answer → Type 0 where

@@ -118,6 +118,12 @@ OnwardAny f w v r = (sheet : List ℕ) (Γ : Meaning) (table : List TreeEntry) �
 abbrev pub VisitsToken : List ℕ → Meaning → Leaf → ℕ → ℕ → State → State → Result (Unit {0}) TooHeavy → Type 0
 VisitsToken sheet Γ l p n w v r = (table : List TreeEntry) (i : ℕ) → tree_at table i ≡ entry.Leaf l p n → Onward sheet Γ table (Expression i) w v r
 
+-- an expression has been visited by what its entry x is, where that is no token's
+abbrev pub WaitsForParts : TreeEntry → Walk → Walk → Type 0
+WaitsForParts x w v =
+    (sheet : List ℕ) (Γ : Meaning) (table : List TreeEntry) (i : ℕ) (f : First Finding) (s : Store) → tree_at table i ≡ x
+    → ((l : Leaf) (p n : ℕ) → x ≡ entry.Leaf l p n → ⊥) → Onward sheet Γ table (Expression i) (state w f s) (state v f s) (Ok tt)
+
 -- all is noted, or its load is too high
 abbrev pub Told : List Note → State → Result (Unit {0}) TooHeavy → Type 0
 Told whole w (Ok _) = Tells w.findings (conditions whole) × Tabled w.store (types whole)

@@ -1,5 +1,5 @@
 -- What a walk over the whole tree answers. No public contract cites it. Assumes nothing.
-use Rattle.std.specs.Prelude.{◌≡◌, ℕ, ◌+◌, ◌<◌, ◌≤◌, List, length, Ok, Err, Option, Result}
+use Rattle.std.specs.Prelude.{ℕ, ◌<◌, ◌≤◌, List, Ok, Err, Option, Result}
 use Rattle.types.specs.declared.entries.TypeEntry.{TypeEntry}
 use Rattle.registers.specs.Meaning.{Meaning, Sound}
 use Rattle.parser.specs.declared.tree.TreeEntry.{TreeEntry}
@@ -9,20 +9,15 @@ use Rattle.checker.specs.declared.finding.Finding.{Finding}
 use Rattle.checker.specs.declared.stage.Checked.{Checked}
 use Rattle.checker.specs.declared.store.TooHeavy.{TooHeavy}
 use Rattle.checker.specs.Rules.{Note, AllTyped, conditions, types}
-use Rattle.checker.specs.Findings.{Findings, blank, FirstOf, AllBlank, weigh}
-use Rattle.checker.specs.Orders.{IsInOrder, TypesHeld}
+use Rattle.checker.specs.Findings.{Findings, AllBlank, weigh}
+use Rattle.checker.specs.Checks.{Recorded}
 
--- the notes ns are kept in the lists and counted in c
+-- the notes ns and their findings are recorded
 pub record WalkedAs (ns : List Note) (c : Checked) (listed : List Finding) (es : List TypeEntry) : Type 0 where
   pub load : weigh (types ns) ≤ 8192
   pub found : List Finding
   pub findings : Findings (conditions ns) found
-  pub count : c.count ≡ length found
-  pub list : FirstOf blank listed found
-  pub expressions : c.expressions ≡ length (types ns)
-  pub light : c.used + c.expressions ≤ weigh (types ns)
-  pub types_held : TypesHeld es c.used (types ns)
-  pub in_order : IsInOrder es c.used c.expressions
+  pub recorded : Recorded ns found c listed es
 
 -- they are, or their load is too high
 abbrev pub WalkedOrHeavy : List Note → Result Checked TooHeavy → List Finding → List TypeEntry → Type 0

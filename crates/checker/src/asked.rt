@@ -39,7 +39,7 @@ fn units_below(types: &[TypeEntry], first: usize, count: usize, end: usize) -> b
     run_below(first, count, end) && (first..first + count).all(|i| is_unit(entry_at(types, i)))
 }
 
-// The same of types.
+// The same of types. A twin: one function for both would take a closure, and its clause would have to say what that tells.
 fn types_below(types: &[TypeEntry], first: usize, count: usize, end: usize) -> bool
     ensures { Decides result ((first + count ≤ end) × Every OfType types.now first count) }
 {

@@ -7,7 +7,7 @@ ghost use Rattle.checker.specs.declared.first.First.{First as AnyFirst};
 ghost use Rattle.checker.specs.declared.store.Store.{Store as AnyStore};
 ghost use Rattle.checker.specs.Askings.{AsksName};
 ghost use Rattle.checker.specs.Makings.{MakesName};
-ghost use Rattle.checker.specs.Standing.{Onward, SameLoans, VisitsToken, state};
+ghost use Rattle.checker.specs.Standing.{Onward, SameLoans, VisitsToken, WaitsForParts, state};
 
 use crate::finding::Finding;
 use crate::first::First;
@@ -69,20 +69,11 @@ impl<'a> Walk<'a> {
         self.ended(store, place, made)
     }
 
-    // The expression at an index: a token ends at once, other expressions wait for their parts.
-    pub fn visit_expression<R: Register>(
-        &mut self,
-        source: &Source<R>,
-        findings: &mut First<Finding>,
-        store: &mut Store,
-        i: usize,
-    ) -> Result<(), TooHeavy>
-        ensures { Onward source.now.sheet.now (R.Register.meaning source.now.names.now) source.now.tree.now (Expression i) (state self.old findings.old store.old) (state self.new findings.new store.new) result }
+    // An expression that is no token waits for its parts.
+    fn wait_for_parts(&mut self, entry: TreeEntry)
+        ensures { WaitsForParts entry self.old self.new }
     {
-        match entry_at(source.tree, i) {
-            TreeEntry::Leaf { leaf, place, len } => {
-                return self.visit_leaf(source, findings, store, leaf, place, len);
-            }
+        match entry {
             TreeEntry::Unary {
                 operator,
                 place,
@@ -108,7 +99,27 @@ impl<'a> Walk<'a> {
             ]),
             _ => {}
         }
-        Ok(())
+    }
+
+    // The expression at an index: a token ends at once, other expressions wait for their parts.
+    pub fn visit_expression<R: Register>(
+        &mut self,
+        source: &Source<R>,
+        findings: &mut First<Finding>,
+        store: &mut Store,
+        i: usize,
+    ) -> Result<(), TooHeavy>
+        ensures { Onward source.now.sheet.now (R.Register.meaning source.now.names.now) source.now.tree.now (Expression i) (state self.old findings.old store.old) (state self.new findings.new store.new) result }
+    {
+        match entry_at(source.tree, i) {
+            TreeEntry::Leaf { leaf, place, len } => {
+                self.visit_leaf(source, findings, store, leaf, place, len)
+            }
+            entry => {
+                self.wait_for_parts(entry);
+                Ok(())
+            }
+        }
     }
 
     // The statement at an index, if there is one, and those before it, which come first.

@@ -27,9 +27,11 @@ use Rattle.checker.specs.Conditions.{Condition, fits}
 use Rattle.checker.specs.Rules.{LeafRule, a_number, a_string, a_true, a_false, a_null, a_name, PrefixRule, a_not, a_negation, a_typeof, InfixRule, arithmetic, comparison, logical, left_number, left_string, right_number, right_string, both_open, Note, ends, conditions, Typed, typed_leaf, typed_unary, typed_binary, typed_choice, AllTyped, typed_none, typed_more}
 use Rattle.checker.specs.Findings as findings
 use Rattle.checker.specs.Findings.{Findings, met, unmet, finding}
-use Rattle.checker.specs.Runs.{Readable}
+use Rattle.checker.specs.declared.run.Refused.{Refused}
+use Rattle.checker.specs.declared.run.Refused.TheVariants.{Read, Check}
+use Rattle.checker.specs.Runs.{Readable, AnswersTo, read_refused, too_heavy}
+use Rattle.checker.specs.Outcomes.{refusal_in, refusing}
 use Rattle.checker.proofs.Logging.{conditions_append}
-use Rattle.host.specs.Answers.{Refused, unread, too_heavy}
 
 -- the expression and its parts stand before n
 abbrev Placed : ℕ → Expr → Type 0
@@ -189,6 +191,6 @@ first_near {s} {sheet} {e} f =
     (λ b. ⊎_elim (λ long. absurd (omega (arith, f.no_earlier LongSheet 16384 (in_tokens (too_long long)), b.1))) (λ ok. omega (arith, b.0)) (cases_lt 16384 (length sheet)))
     (fault_near f.is_fault)
 
-pub refusal_near : {s : Sizes} {sheet : List ℕ} {e : Refusal} → Refused s sheet e → e.place < 2 ^ 32
-refusal_near (unread f) = first_near f
-refusal_near (too_heavy ss r w) = omega arith
+pub refusal_near : {s : Sizes} {Γ : Meaning} {sheet : List ℕ} (r : Refused) → AnswersTo s Γ sheet (refusing r) → (refusal_in r).place < 2 ^ 32
+refusal_near (Read e) (read_refused f) = first_near f
+refusal_near (Check e) (too_heavy ss r w) = omega arith

@@ -1,13 +1,22 @@
 -- What the builder's methods make of its tables, in the terms of Holds. No public contract cites it. Assumes nothing.
-use Rattle.std.specs.Prelude.{◌≡◌, ℕ, ◌+◌, ◌<◌, ◌≤◌, List, [], length, None, slice_set}
+use Rattle.std.specs.Prelude.{◌≡◌, ℕ, ◌+◌, ◌<◌, ◌≤◌, List, [], length, Some, None, Option, Result, MatchOption, slice_set}
+use Rattle.lexer.specs.Reading.{Lexes, finished}
+use Rattle.lexer.specs.Scanning.{Tok}
+use Rattle.lexer.specs.declared.refusal.Refusal.{Refusal}
 use Rattle.stack.specs.Items.{held, room}
 use Rattle.parser.specs.declared.symbols.Token.{Token}
+use Rattle.parser.specs.declared.symbols.Follow.{Follow}
 use Rattle.parser.specs.declared.tree.TreeEntry.{TreeEntry}
 use Rattle.parser.specs.declared.builder.Builder.{Builder}
 use Rattle.parser.specs.declared.builder.Position.{Position}
+use Rattle.parser.specs.declared.builder.Position.TheVariants.{Want}
+use Rattle.parser.specs.declared.reading.Read.{Read}
 use Rattle.parser.specs.Syntax.{Expr, sizes}
-use Rattle.parser.specs.Machine.{Part, State}
-use Rattle.parser.specs.Holds.{Operand, Progress, spent, Before, Ended, Reduced, Lower, Holds, Next}
+use Rattle.parser.specs.Grammar.{follow, left, level}
+use Rattle.parser.specs.Machine.{Part, State, want, after, wants, Dead}
+use Rattle.parser.specs.Holds.{Operand, Progress, Within, spent, Before, Ended, Reduced, Lower, Holds, Next, Sofar}
+use Rattle.parser.specs.Reading.{tokens}
+use Rattle.parser.specs.Parsing.{Builds}
 
 -- no entry is in use
 pub record IsEmpty (b : Builder) : Type 0 where
@@ -57,6 +66,39 @@ Stands sheet b q s ss ps = Holds sheet b.tree.now (held b.parts) (progress b q) 
 -- and so is the one that t leads to
 abbrev pub Turns : ℕ → Builder → Position → State → List Expr → List Part → Token → Type 0
 Turns sheet b q s ss ps t = Next sheet b.tree.now (held b.parts) (progress b q) s ss ps t
+
+-- either that, or nothing that begins with t completes the configuration
+abbrev pub TurnsOrDies : ℕ → Builder → Option Position → State → List Expr → List Part → Token → Type 0
+TurnsOrDies sheet b r s ss ps t = MatchOption r (Dead s ss ps t) (λ q. Turns sheet b q s ss ps t)
+
+-- what t comes to where an operand is wanted
+abbrev pub TakesOperand : Builder → Token → Builder → Option Position → Type 0
+TakesOperand old t new r =
+    (sheet : ℕ) (ss : List Expr) (ps : List Part) → Within sheet t → WantsOperand sheet old ss ps → TurnsOrDies sheet new r want ss ps t
+
+-- what t comes to after the operand at an index, which binds as tightly as k
+abbrev pub TakesAfter : Builder → ℕ → ℕ → Token → Builder → Option Position → Type 0
+TakesAfter old at k t new r =
+    (sheet : ℕ) (ss : List Expr) (ps : List Part) (e : Expr) → HasOperand sheet old at k ss ps e
+    → TurnsOrDies sheet new r (after k e) ss ps t
+
+-- what t comes to where it goes on as f from the operand at an index
+abbrev pub GoesOn : Builder → ℕ → Follow → Builder → Type 0
+GoesOn old at f new =
+    (sheet : ℕ) (ss : List Expr) (ps : List Part) (k : ℕ) (e : Expr) (t : Token) → follow t.symbol ≡ Some f → wants ps ≤ level f
+    → left f ≤ k → HasOperand sheet old at k ss ps e → Turns sheet new Want (after k e) ss ps t
+
+-- what t comes to in any configuration
+abbrev pub Takes : Builder → Position → Token → Builder → Option Position → Type 0
+Takes old q t new r =
+    (sheet : ℕ) (s : State) (ss : List Expr) (ps : List Part) → Within sheet t → Stands sheet old q s ss ps
+    → TurnsOrDies sheet new r s ss ps t
+
+-- what is built where all tokens of a sheet of this length are taken
+abbrev pub Finishes : Builder → Position → ℕ → Result Read Refusal → Type 0
+Finishes b q end r =
+    (sheet : List ℕ) (ls : List Tok) → end ≡ length sheet → Lexes sheet 0 ls finished → length ls ≤ 4096 → b.used ≤ length ls
+    → Sofar (length sheet) (tokens sheet ls) b.tree.now (held b.parts) (progress b q) → Builds sheet b.tree.now r
 
 -- nothing is completed, for no part on top ends with an operand that binds as tightly as least
 pub record Lowest (least : ℕ) (old new : Builder) : Type 0 where

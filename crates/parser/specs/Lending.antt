@@ -8,12 +8,12 @@ use Rattle.parser.specs.Reading.{Sizes}
 abbrev pub sizes_of : ℕ → Tables → Sizes
 sizes_of n t = record { of_tree = n; of_operators = length t.operators.now; of_frames = length t.frames.now; of_types = length t.types.now }
 
--- the same table, as long as it was
-abbrev pub SameTable : {T : Type 0} → MutBor (List T) → MutBor (List T) → Type 0
-SameTable a b = (b.ghost_name ≡ a.ghost_name) × (length b.now ≡ length a.now)
+-- the table that was lent, as long as it was
+abbrev pub GivenBack : {T : Type 0} → MutBor (List T) → MutBor (List T) → Type 0
+GivenBack a b = (b.ghost_name ≡ a.ghost_name) × (length b.now ≡ length a.now)
 
 -- a call gives the tables back that it was lent
 pub record Lent (t u : Tables) : Type 0 where
-  pub operators : SameTable t.operators u.operators
-  pub frames : SameTable t.frames u.frames
-  pub types : SameTable t.types u.types
+  pub operators : GivenBack t.operators u.operators
+  pub frames : GivenBack t.frames u.frames
+  pub types : GivenBack t.types u.types

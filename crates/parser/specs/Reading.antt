@@ -57,12 +57,16 @@ pub record Sizes : Type 0 where
   pub of_frames : ℕ
   pub of_types : ℕ
 
--- one of them is under its size
+-- how long each has to be at least
+abbrev pub least : Sizes
+least = record { of_tree = 4096; of_operators = 4096; of_frames = 4096; of_types = 8192 }
+
+-- one of them is shorter
 pub data Short (s : Sizes) : Type 0 where
-  short_tree : s.of_tree < 4096 → Short s
-  short_operators : s.of_operators < 4096 → Short s
-  short_frames : s.of_frames < 4096 → Short s
-  short_types : s.of_types < 8192 → Short s
+  short_tree : s.of_tree < least.of_tree → Short s
+  short_operators : s.of_operators < least.of_operators → Short s
+  short_frames : s.of_frames < least.of_frames → Short s
+  short_types : s.of_types < least.of_types → Short s
 
 -- a rule of reading is broken, and where
 pub data Fault (s : Sizes) (sheet : List ℕ) : Reason → ℕ → Type 0 where

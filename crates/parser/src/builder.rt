@@ -1,17 +1,9 @@
 // Builds the tree of a sheet, token by token: operators by their binding, on a stack of the parts that are still open.
-ghost use Rattle.std.specs.Prelude.{◌≡◌, ℕ, ◌<◌, ◌≤◌, List, length, Some, None, MatchOption};
-ghost use Rattle.lexer.specs.Reading.{Lexes, finished};
-ghost use Rattle.lexer.specs.Scanning.{Tok};
-ghost use Rattle.parser.specs.Syntax.{Expr};
-ghost use Rattle.parser.specs.Grammar.{atom, follow, left, level};
-ghost use Rattle.parser.specs.Machine.{Part, State, want, after, wants, Dead};
+ghost use Rattle.std.specs.Prelude.{◌≡◌, ℕ, ◌<◌, length, None, MatchOption};
+ghost use Rattle.parser.specs.Grammar.{atom, follow};
 ghost use Rattle.stack.specs.Items.{held, room};
-ghost use Rattle.parser.specs.Holds.{Within, Lower, Sofar};
-ghost use Rattle.parser.specs.declared.builder.Position.TheVariants.{Want};
-ghost use Rattle.parser.specs.Building.{IsEmpty, HasRoom, Adds, Grown, Completes, WantsOperand, HasOperand, Stands, Turns, Lowest, progress};
-ghost use Rattle.parser.specs.Reading.{tokens};
-ghost use Rattle.parser.specs.Parsing.{Builds};
-ghost use Rattle.parser.specs.declared.symbols.Token.{Token as AnyToken};
+ghost use Rattle.parser.specs.Holds.{Lower};
+ghost use Rattle.parser.specs.Building.{IsEmpty, HasRoom, Adds, Grown, Completes, Lowest, TakesOperand, TakesAfter, GoesOn, Takes, Finishes};
 
 use crate::reading::Read;
 use crate::symbols::{Follow, Symbol, Token};
@@ -106,7 +98,7 @@ impl<'a> Builder<'a> {
     fn operand(&mut self, t: Token) -> Option<Position>
         requires { HasRoom self.old }
         ensures grown { Grown 1 self.old self.new }
-        ensures turns { (sheet : ℕ) (b : List Expr) (ps : List Part) → Within sheet t → WantsOperand sheet self.old b ps → MatchOption result (Dead want b ps t) (λ q. Turns sheet self.new q want b ps t) }
+        ensures turns { TakesOperand self.old t self.new result }
     {
         match t.symbol {
             Symbol::Leaf(leaf) => {
@@ -138,7 +130,7 @@ impl<'a> Builder<'a> {
         requires lower { Lower 0 (held self.old.parts) }
         requires ends { follow t.symbol ≡ None }
         ensures grown { Grown 1 self.old self.new }
-        ensures turns { (sheet : ℕ) (b : List Expr) (ps : List Part) (k : ℕ) (e : Expr) → HasOperand sheet self.old at k b ps e → MatchOption result (Dead (after k e) b ps t) (λ q. Turns sheet self.new q (after k e) b ps t) }
+        ensures turns { (k : ℕ) → TakesAfter self.old at k t self.new result }
     {
         match (self.parts.pop(), t.symbol) {
             (None, Symbol::Semicolon) => {
@@ -162,7 +154,7 @@ impl<'a> Builder<'a> {
     fn open(&mut self, at: usize, f: Follow)
         requires { HasRoom self.old }
         ensures grown { Grown 1 self.old self.new }
-        ensures turns { (sheet : ℕ) (b : List Expr) (ps : List Part) (k : ℕ) (e : Expr) (t : AnyToken) → follow t.symbol ≡ Some f → wants ps ≤ level f → left f ≤ k → HasOperand sheet self.old at k b ps e → Turns sheet self.new Want (after k e) b ps t }
+        ensures turns { GoesOn self.old at f self.new }
     {
         self.parts.push(match f {
             Follow::Infix(operator) => OperatorEntry::Infix { operator, left: at },
@@ -174,7 +166,7 @@ impl<'a> Builder<'a> {
     fn follow(&mut self, at: usize, t: Token) -> Option<Position>
         requires { HasRoom self.old }
         ensures grown { Grown 1 self.old self.new }
-        ensures turns { (sheet : ℕ) (b : List Expr) (ps : List Part) (e : Expr) → HasOperand sheet self.old at atom b ps e → MatchOption result (Dead (after atom e) b ps t) (λ q. Turns sheet self.new q (after atom e) b ps t) }
+        ensures turns { TakesAfter self.old at atom t self.new result }
     {
         match t.symbol.follow() {
             Some(f) => {
@@ -193,7 +185,7 @@ impl<'a> Builder<'a> {
     pub(crate) fn step(&mut self, position: Position, t: Token) -> Option<Position>
         requires { HasRoom self.old }
         ensures grown { Grown 1 self.old self.new }
-        ensures turns { (sheet : ℕ) (s : State) (b : List Expr) (ps : List Part) → Within sheet t → Stands sheet self.old position s b ps → MatchOption result (Dead s b ps t) (λ q. Turns sheet self.new q s b ps t) }
+        ensures turns { Takes self.old position t self.new result }
     {
         match position {
             Position::Start | Position::Want => self.operand(t),
@@ -203,7 +195,7 @@ impl<'a> Builder<'a> {
 
     // The reading, once all tokens are taken; `end` is the sheet's length.
     pub fn finish(&self, position: Position, end: usize) -> Result<Read, Refusal>
-        ensures { (sheet : List ℕ) (ls : List Tok) → end ≡ length sheet → Lexes sheet 0 ls finished → length ls ≤ 4096 → self.now.used ≤ length ls → Sofar (length sheet) (tokens sheet ls) self.now.tree.now (held self.now.parts) (progress self.now position) → Builds sheet self.now.tree.now result }
+        ensures { Finishes self.now position end result }
     {
         match position {
             Position::Start => Ok(Read::new(self.used)),

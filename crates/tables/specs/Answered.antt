@@ -4,24 +4,21 @@ use Rattle.types.specs.declared.entries.TypeEntry.{TypeEntry}
 use Rattle.registers.specs.Library.{library}
 use Rattle.registers.specs.Meaning.{Meaning}
 use Rattle.parser.specs.Syntax.{Expr}
-use Rattle.parser.specs.Reading.{Sizes}
+use Rattle.parser.specs.Reading.{Sizes, least}
 use Rattle.checker.specs.declared.finding.Finding.{Finding}
 use Rattle.checker.specs.Rules.{Note, AllTyped, conditions, types}
 use Rattle.checker.specs.Findings.{Findings, weigh}
 use Rattle.checker.specs.Runs.{AnswersTo, Left}
 use Rattle.tables.specs.declared.Outcome.{Outcome}
 
--- the sizes that a check asks for
-abbrev pub full : Sizes
-full = record { of_tree = 4096; of_operators = 4096; of_frames = 4096; of_types = 8192 }
-
 -- over tables of some sizes, the answer is the lawful one, and the findings list and the types are those that it leaves
 pub record AnsweredOver (s : Sizes) (sheet : List ℕ) (o : Outcome) (listed : List Finding) (es : List TypeEntry) : Type 0 where
   pub lawful : AnswersTo s library sheet o.answer
   pub left : Left s library sheet listed es o.answer o.checked
 
+-- the same over tables that are just long enough
 abbrev pub Answered : List ℕ → Outcome → List Finding → List TypeEntry → Type 0
-Answered = AnsweredOver full
+Answered = AnsweredOver least
 
 -- n slots hold the findings of every program whose load is not too high
 abbrev pub HoldsAll : ℕ → Type 0

@@ -295,25 +295,3 @@ go a b false false p q = never_meet a b p q
 -- the verdict says what is so
 pub says : (a b : Kind) → Says a b (verdict a b)
 says a b = go a b (sure a b) (unsure a b) refl refl
-
--- kinds whose types have to be taken apart have parts of one class
-pub parted : (k l : Kind) → ByParts ≡ verdict k l → (c : Class) × (part c k ≡ true) × (part c l ≡ true)
-parted k l e = which (sure k l) (unsure k l) refl e
-  where
-    which : (x y : Bool) → unsure k l ≡ y → ByParts ≡ cond x Meet (cond y ByParts Never) → (c : Class) × (part c k ≡ true) × (part c l ≡ true)
-    which true y q e = absurd (let z : ◌≡◌ {A = ℕ} 0 1 = cc in omega arith)
-    which false true q e =
-        let found = some_class (λ c. part c k && part c l) classes q in
-        let both = and_parts (part found.0 k) (part found.0 l) found.1 in
-        (found.0, both.0, both.1)
-    which false false q e = absurd (let z : ◌≡◌ {A = ℕ} 0 1 = cc in omega arith)
-
-pub number_partner : {t : Ty} {l : Kind} (c : Class) → part c NumberLiteral ≡ true → part c l ≡ true → OfKind t l → OfKind t NumberLiteral
-number_partner numbers p q o = of_kind NumberLiteral q o
-number_partner strings p q o = absurd (both_ways false refl p)
-number_partner trues p q o = absurd (both_ways false refl p)
-number_partner falses p q o = absurd (both_ways false refl p)
-number_partner undefineds p q o = absurd (both_ways false refl p)
-number_partner nulls p q o = absurd (both_ways false refl p)
-number_partner functions p q o = absurd (both_ways false refl p)
-number_partner pairs p q o = absurd (both_ways false refl p)

@@ -8,7 +8,6 @@ use Rattle.types.specs.declared.entries.TypeEntry.{TypeEntry}
 use Rattle.types.specs.contracts.entries.TypeEntryPartialEq.TheImpl.{eq-value}
 use Rattle.types.specs.declared.entries.TypeEntry.TheVariants.{Unused, CodeUnit, NumberLiteral, StringLiteral, Function, Pair, List as ListOf, Union}
 use Rattle.types.specs.declared.kinds.Kind.{Kind}
-use Rattle.types.specs.declared.kinds.Kind.TheVariants as kinds
 use Rattle.types.specs.declared.kinds.Verdict.TheVariants as verdicts
 use Rattle.types.specs.Values.{Decimal, Text, Value, a_number, a_string, a_function, a_pair, canonical, units16}
 use Rattle.types.specs.Types.{Ty, Types, any, number_literal, string_literal, union, pair, list, ◌and◌, count, Meet, Belongs, in_any, in_number_literal, in_string_literal, in_function, in_pair, pair_in_list, in_union, BelongsToSome, to_first, to_other}
@@ -17,9 +16,9 @@ use Rattle.types.specs.declared.entries.Root.{Root}
 use Rattle.types.specs.Roots.{root_at}
 use Rattle.types.specs.Inner.{SaysSomeMeet, SaysMeetByParts}
 use Rattle.types.specs.Table.{entry_at, UnitsAt, Is, is_any, is_number, is_number_literal, is_string, is_string_literal, is_boolean, is_true, is_false, is_undefined, is_null, is_function, is_pair, is_list, is_union, Run, run_end, run_more, SaysMeet, SaysSame}
-use Rattle.types.specs.Kinds.{OfKind, number_kind, number_literal_kind, string_kind, string_literal_kind, boolean_kind, true_kind, false_kind, undefined_kind, null_kind, function_kind, pair_kind, list_kind, entry_kind, part, verdict, Says}
+use Rattle.types.specs.Kinds.{OfKind, number_kind, number_literal_kind, string_kind, string_literal_kind, boolean_kind, true_kind, false_kind, undefined_kind, null_kind, function_kind, pair_kind, list_kind, entry_kind, verdict, Says}
 use Rattle.types.proofs.Inhabited.{inhabited}
-use Rattle.types.proofs.Meaning.{swapped, parted, number_partner, same_number, same_string, same_count}
+use Rattle.types.proofs.Meaning.{swapped, same_number, same_string, same_count}
 
 -- an answer by what is so of the types
 says_yes : {es : List TypeEntry} {n m : ℕ} {a b : TypeEntry} → ((s t : Ty) → Is es n a s → Is es m b t → Meet s t) → SaysMeet es n a m b true
@@ -247,19 +246,6 @@ lengths_apart {es} {i} {j} {f} {m} {g} {n} is js neg ne = says_no neg (λ s t hs
   where
     go : {s t : Ty} → Is es i (StringLiteral f m) s → Is es j (StringLiteral g n) t → Meet s t → ⊥
     go (is_string_literal lx p u) (is_string_literal ly q v) o = ne (sym p ∙ ap (λ z. length z.units) (same_string o) ∙ q)
-
--- what an entry is, by the kind of the type that it holds
-number_entry : {es : List TypeEntry} {n : ℕ} {e : TypeEntry} {s : Ty} → OfKind s kinds.NumberLiteral → Is es n e s → (digits : ℕ) × (exponent : ℤ) × (e ≡ NumberLiteral digits exponent)
-number_entry number_literal_kind (is_number_literal p q) = (_, _, refl)
-
--- a number literal meets a number literal only by parts
-pub no_number : {es : List TypeEntry} {i j m : ℕ} {x : ℤ} {a b : TypeEntry} {k l : Kind} → entry_kind a ≡ Some k → entry_kind b ≡ Some l → verdict k l ≡ verdicts.ByParts → a ≡ NumberLiteral m x → ((digits : ℕ) (exponent : ℤ) → b ≡ NumberLiteral digits exponent → ⊥) → SaysMeet es i a j b false
-no_number {k} {l} ki lj v is n =
-    free (λ le le' s t hs ht.
-    let c = parted k l (sym v) in
-    let same : k ≡ kinds.NumberLiteral = some_some (sym ki ∙ ap entry_kind is) in
-    let e = number_entry (number_partner c.0 (subst (λ x. part c.0 x ≡ true) same c.1) c.2 (of_entry lj ht)) ht in
-    n e.0 e.1 e.2)
 
 -- the types at two indexes, taken out as parts
 pub at_both : {es : List TypeEntry} {k l : ℕ} {r : Bool} (x y : Root) → x ≡ root_at es k → y ≡ root_at es l → SaysMeet es x.used x.entry y.used y.entry r → At es k l r

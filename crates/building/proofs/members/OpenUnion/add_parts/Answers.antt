@@ -1,7 +1,7 @@
 -- `add_parts`: each way out of it by one lemma of `PartsMade`. Assumes nothing.
 use Rattle.std.proofs.Common.{Some, None, sym, refl, ◌∙◌, subst}
 use Rattle.types.specs.Table.{entry_at}
-use Rattle.building.specs.Entries.{AddsPart, AddsPartsTo}
+use Rattle.building.specs.Entries.{AddsPart, AddsParts, counted}
 use Rattle.building.proofs.PartsMade.{Parting, none_parted, more_parted, parts_none_fit, all_parted}
 use Rattle.building.proofs.members.OpenUnion.add_parts.Goals as goal
 
@@ -24,7 +24,7 @@ returns-in_err-add_part-clause-added c e =
     let w = c.in_err-add_part.ensures in
     let u = c.loop-member.self in
     let v = c.add_part.new.self in
-    subst (λ r. AddsPartsTo c.args.self.now c.args.members.now c.args.side v r) (sym c.from_residual.ensures) (λ e. parts_none_fit _ _ _ _ _ _ c.loop-member-test.true (i.1 e) _ _ refl (subst (λ ps. AddsPart ps u.slots.now v.slots.now u.count (entry_at c.args.members.now c.loop-member.member-index) c.args.side None) i.0.1 w.added)) e
+    subst (λ r. AddsParts c.args.self.now.parts.now v.slots.now c.args.members.now c.args.side (counted r v.count)) (sym c.from_residual.ensures) (parts_none_fit _ _ _ _ _ _ c.loop-member-test.true (i.1 e) _ _ refl (subst (λ ps. AddsPart ps u.slots.now v.slots.now u.count (entry_at c.args.members.now c.loop-member.member-index) c.args.side None) i.0.1 w.added))
 
 pub returns-clause-added : goal.returns-clause-added
 returns-clause-added c e = all_parted _ _ _ _ _ _ c.loop-member-test.false (c.loop-member.invariant.1 e)

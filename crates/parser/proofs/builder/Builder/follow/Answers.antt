@@ -15,4 +15,4 @@ returns-in-None-clause-turns c =
     let told = c.reduce-at-in-None.ensures.completes in
     λ sheet b ps e h.
     let a = told.reduced.turns sheet _ atom b ps e c.args.t h (fits_atom c.args.t) (ends_other c.args.t 0 (sym c.in-None.ensures)) in
-    via _ _ (progress c.close.new.self) a c.close.result (c.close.ensures.turns sheet b _ _ _ (relast told.last a.ended))
+    via _ _ (progress c.close.new.self) a c.close.result (c.close.ensures.turns _ sheet b _ _ (relast told.last a.ended))
