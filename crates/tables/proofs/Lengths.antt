@@ -5,4 +5,4 @@ use Rattle.checker.proofs.Notes.{few_by_load}
 use Rattle.tables.specs.Answered.{HoldsAll}
 
 pub holds_all : (n : ℕ) → 16384 ≤ n → HoldsAll n
-holds_all n long sheet Γ ss ns found typed light findings = omega (arith, few_by_load typed, few_found findings, light, long)
+holds_all n long sheet Γ ss notes found j = omega (arith, few_by_load j.typed, few_found j.findings, j.load, long)

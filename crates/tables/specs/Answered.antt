@@ -6,8 +6,8 @@ use Rattle.registers.specs.Meaning.{Meaning}
 use Rattle.parser.specs.Syntax.{Expr}
 use Rattle.parser.specs.Reading.{Sizes, least}
 use Rattle.checker.specs.declared.finding.Finding.{Finding}
-use Rattle.checker.specs.Rules.{Note, AllTyped, conditions, types}
-use Rattle.checker.specs.Findings.{Findings, weigh}
+use Rattle.checker.specs.Rules.{Note}
+use Rattle.checker.specs.Findings.{Judged}
 use Rattle.checker.specs.Runs.{AnswersTo, Left}
 use Rattle.tables.specs.declared.Outcome.{Outcome}
 
@@ -20,8 +20,6 @@ pub record AnsweredOver (s : Sizes) (sheet : List ℕ) (o : Outcome) (listed : L
 abbrev pub Answered : List ℕ → Outcome → List Finding → List TypeEntry → Type 0
 Answered = AnsweredOver least
 
--- n slots hold the findings of every program whose load is not too high
+-- n slots hold the findings of every program that is checked
 abbrev pub HoldsAll : ℕ → Type 0
-HoldsAll n =
-    (sheet : List ℕ) (Γ : Meaning) (ss : List Expr) (ns : List Note) (found : List Finding) →
-    AllTyped sheet Γ ss ns → weigh (types ns) ≤ 8192 → Findings (conditions ns) found → length found ≤ n
+HoldsAll n = (sheet : List ℕ) (Γ : Meaning) (ss : List Expr) (notes : List Note) (found : List Finding) → Judged sheet Γ ss notes found → length found ≤ n
