@@ -74,11 +74,22 @@ impl<'a> Store<'a> {
         copied(&mut self.entries[..limit], self.used, others, made).ok_or(TooHeavy)
     }
 
-    // The weight of a type in hand, or 8,193 where it is more.
+    // The weight of a type in hand, or 8,193 where it is more. Most types have no parts, and need no call.
     fn weight_of(&self, made: Root) -> usize
         ensures { SaysWeight self.now.entries.now made.used made.entry 8193 result }
     {
-        weight_within(self.entries, made, TYPES + 1)
+        match made.entry {
+            TypeEntry::Any
+            | TypeEntry::Number
+            | TypeEntry::NumberLiteral { .. }
+            | TypeEntry::String
+            | TypeEntry::Boolean
+            | TypeEntry::True
+            | TypeEntry::False
+            | TypeEntry::Undefined
+            | TypeEntry::Null => 1,
+            _ => weight_within(self.entries, made, TYPES + 1),
+        }
     }
 
     // Keeps a type in hand as that of the next expression.

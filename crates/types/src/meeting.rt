@@ -8,7 +8,9 @@ use crate::kinds::{Verdict, kind_of, verdict_of};
 use std::ops::Range;
 
 // Whether two types have a common value. Where one of them is no type of the table, the answer is free. Of an entry of
-// the table `used` is its index, and the sum of the two falls with each step to parts.
+// the table `used` is its index, and the sum of the two falls with each step to parts. Inlined, as most types have no
+// parts, and one look into the table of kinds answers; the functions for parts and members are not, so that it stays small.
+#[inline(always)]
 #[cycle(meeting)]
 pub fn meets(types: &[TypeEntry], a: Root, b: Root) -> bool
     ensures { SaysMeet types.now a.used a.entry b.used b.entry result }
@@ -41,6 +43,7 @@ pub fn meets(types: &[TypeEntry], a: Root, b: Root) -> bool
 
 // Whether one of the types in a run of entries meets another type. A `for`, since a recursion through a closure gets no
 // proof.
+#[inline(never)]
 #[cycle(meeting)]
 fn some_meets(types: &[TypeEntry], run: Range<usize>, other: Root) -> bool
     ensures { SaysSomeMeet types.now run.start run.end other.used other.entry result }
@@ -54,6 +57,7 @@ fn some_meets(types: &[TypeEntry], run: Range<usize>, other: Root) -> bool
 }
 
 // Whether two types of kinds that meet by their parts do so. None where a part does not stand below its type.
+#[inline(never)]
 #[cycle(meeting)]
 fn parts_meet(types: &[TypeEntry], a: Root, b: Root) -> Option<bool>
     ensures { SaysMeetByParts types.now a.used a.entry b.used b.entry result }
