@@ -1,5 +1,5 @@
 -- Closed unions. Assumes nothing.
-use Rattle.std.proofs.Common.{◌≡◌, ℕ, ◌+◌, ◌<◌, ◌≤◌, ◌⊎◌, List, [], ◌∷◌, ◌++◌, length, take, drop, Some, None, Option, sym, refl, subst, ⊎_elim, arith}
+use Rattle.std.proofs.Common.{◌≡◌, ℕ, ◌+◌, ◌<◌, ◌≤◌, ◌⊎◌, List, [], ◌∷◌, ◌++◌, length, take, drop, Some, None, Option, sym, refl, ap, subst, ⊎_elim, arith}
 use Rattle.std.proofs.lemmas.List.{take-append-drop}
 use Rattle.std.proofs.lemmas.Grind.{common_steps}
 use Rattle.types.specs.declared.entries.TypeEntry.{TypeEntry}
@@ -13,12 +13,13 @@ use Rattle.building.specs.Unions.{◌then◌, Brings, brings_none, In, in_first,
 use Rattle.building.specs.Forms.{AllInForm, form_any, form_none, form_more}
 use Rattle.building.specs.Weights.{weight, weights}
 use Rattle.building.specs.Entries.{Open, OpenIn, HasNoRoom, AddsAll, Flat, flat_any, flat_one, flat_members, Closes}
-use Rattle.building.specs.Made.{Kept, UnionMade, MakesUnion, Hold, hold_none, hold_more}
-use Rattle.building.proofs.OneUnion.{brings_one, any_no_kind}
+use Rattle.building.specs.Made.{Kept, Needs, needs_none, needs_members, UnionMade, MakesUnion, Hold, hold_none, hold_more}
+use Rattle.building.proofs.OneUnion.{brings_one, any_no_kind, one_members, moved}
 use Rattle.building.proofs.InOneForm.{front_or_end, the_only, flat_of, flat_brings, some_arrive, union_in_form}
 use Rattle.building.proofs.OneMore.{in_front, at_end}
 use Rattle.building.proofs.Held.{hold_count, hold_run, begins, begun, after_parts}
 use Rattle.building.proofs.AllMembers.{then_none}
+use Rattle.building.proofs.Unite.{needed}
 use Rattle.building.proofs.Filled.{filled_none, run_filled}
 
 -- every type weighs something
@@ -45,16 +46,22 @@ count_weights (t and ts) = let a = some_weight t in let b = count_weights ts in 
 two_bring : {s t : Ty} {xs ys : Types} → Flat s xs → Flat t ys → Brings (s and t and no_types) (xs then ys)
 two_bring {s} {t} {xs} {ys} f g = subst (λ zs. Brings (s and t and no_types) (xs then zs)) (then_none ys) (flat_brings f (flat_brings g brings_none))
 
+-- the members of an open union are in the slots, and so they fit in
+open_fits : {ps hs : List TypeEntry} {ts xs : Types} (rest : List TypeEntry) → Brings ts xs → Open ps hs xs → (n : ℕ) × Needs ts n × (length ps + n ≤ length (ps ++ (hs ++ rest)))
+open_fits rest b o =
+    let c = hold_count o.stored in
+    (count o.members, needs_members b (λ i. any_no_kind (o.of_kinds any (o.are_members.all any i)).1) o.are_members, grind (arith, common_steps))
+
 -- closing
 pub closes_one : (ps hs : List TypeEntry) → length hs ≡ 1 → Closes ps hs (record { entry = entry_at hs 0; used = length ps })
-closes_one ps hs one ts xs rest forms b some o = go hs one o.members o.stored o.are_members
+closes_one ps hs one ts xs rest forms b some o = go hs one (open_fits rest b o) o.members o.stored o.are_members
   where
-    go : (hs : List TypeEntry) → length hs ≡ 1 → (ms : Types) → Hold ps (length ps) hs ms → Members xs ms → UnionMade (ps ++ (hs ++ rest)) (length ps) ts (record { entry = entry_at hs 0; used = length ps })
-    go (e ∷ []) one (t and no_types) (hold_more x h) m = record { made = t; is_union = union_one b m; in_form = union_in_form forms (union_one b m); holds = is_kept (begins ps (e ∷ rest)) x; more = omega arith; within = grind (arith, common_steps); light = let w = some_weight t in omega arith; filled = filled_none (ps ++ (e ∷ rest)) (length ps) }
-    go (e ∷ []) one (t and (u and us)) s m = let c = hold_count s in absurd (omega arith)
-    go (e ∷ []) one no_types s m = elim s [ ]
-    go (e ∷ (f ∷ hs)) one ms s m = absurd (omega arith)
-    go [] one ms s m = absurd (omega arith)
+    go : (hs : List TypeEntry) → length hs ≡ 1 → ((n : ℕ) × Needs ts n × (length ps + n ≤ length (ps ++ (hs ++ rest)))) → (ms : Types) → Hold ps (length ps) hs ms → Members xs ms → UnionMade (ps ++ (hs ++ rest)) (length ps) ts (record { entry = entry_at hs 0; used = length ps })
+    go (e ∷ []) one room (t and no_types) (hold_more x h) m = record { made = t; is_union = union_one b m; in_form = union_in_form forms (union_one b m); holds = is_kept (begins ps (e ∷ rest)) x; more = omega arith; within = grind (arith, common_steps); light = let w = some_weight t in omega arith; filled = filled_none (ps ++ (e ∷ rest)) (length ps); fits = room }
+    go (e ∷ []) one room (t and (u and us)) s m = let c = hold_count s in absurd (omega arith)
+    go (e ∷ []) one room no_types s m = elim s [ ]
+    go (e ∷ (f ∷ hs)) one room ms s m = absurd (omega arith)
+    go [] one room ms s m = absurd (omega arith)
 
 pub closes_more : (ps hs : List TypeEntry) → (length hs ≡ 1 → ⊥) → Closes ps hs (record { entry = Union (length ps) (length hs); used = length ps + length hs })
 closes_more ps hs more ts xs rest forms b some o = go o.members o.stored o.are_members
@@ -70,7 +77,7 @@ closes_more ps hs more ts xs rest forms b some o = go o.members o.stored o.are_m
         let w = some_weight t in
         let v = count_weights (u and us) in
         let r = hold_run (length ps) (length ps) (begins ps (hs ++ rest)) (omega arith) (after_parts ps hs rest) s in
-        record { made = union t (u and us); is_union = union_more b m; in_form = union_in_form forms (union_more b m); holds = is_union (omega arith) r; more = omega arith; within = grind (arith, common_steps); light = omega arith; filled = run_filled r }
+        record { made = union t (u and us); is_union = union_more b m; in_form = union_in_form forms (union_more b m); holds = is_union (omega arith) r; more = omega arith; within = grind (arith, common_steps); light = omega arith; filled = run_filled r; fits = open_fits rest b o }
 
 -- no type has arrived
 pub empty : (ps es : List TypeEntry) → OpenIn ps es 0 no_types
@@ -92,7 +99,7 @@ held_any : {es : List TypeEntry} {n : ℕ} {e : TypeEntry} → e ≡ Any → Is 
 held_any {es} {n} p = subst (λ x. Is es n x any) (sym p) is_any
 
 made_any : {es : List TypeEntry} {used : ℕ} {e : TypeEntry} {ts xs : Types} → used ≤ length es → e ≡ Any → Brings ts xs → In any xs → UnionMade es used ts (record { entry = e; used = used })
-made_any {es} {used} low p b i = record { made = any; is_union = union_any b i; in_form = form_any; holds = held_any p; more = omega arith; within = low; light = omega arith; filled = filled_none es used }
+made_any {es} {used} low p b i = record { made = any; is_union = union_any b i; in_form = form_any; holds = held_any p; more = omega arith; within = low; light = omega arith; filled = filled_none es used; fits = (0, needs_none b i, omega arith) }
 
 -- a type that is not `any` does not bring it
 pub any_held : {es : List TypeEntry} {n : ℕ} {e : TypeEntry} → Is es n e any → e ≡ Any
@@ -103,17 +110,27 @@ brings_no_any none h flat_any i = none (any_held h)
 brings_no_any none h (flat_one {k} tk) i = any_no_kind (subst (λ x. OfKind x k) (sym (the_only i)) tk)
 brings_no_any none h (flat_members kinds) i = any_no_kind (kinds any i).1
 
--- where the types that arrived have no room, their union has none
-pub too_heavy : (es : List TypeEntry) {ts xs : Types} {t : Ty} → Brings ts xs → (In any xs → ⊥) → HasNoRoom es xs → UnionOf ts t → length es < weight t
-too_heavy es b none short (union_any c i) = absurd (none (subst (In any) (brings_one c b) i))
-too_heavy es b none short (union_one {t} c m) =
-    let h = short (t and no_types) (λ u i. m.all u (subst (In u) (brings_one b c) i)) in
+-- where the types that arrived have no room, the entries that their union needs do not fit in
+pub no_fit : (es : List TypeEntry) {ts xs : Types} {n : ℕ} → Brings ts xs → (In any xs → ⊥) → HasNoRoom es xs → Needs ts n → length es < n
+no_fit es b none short (needs_none c i) = absurd (none (subst (In any) (brings_one c b) i))
+no_fit es b none short (needs_members c apart m) = short _ (λ u i. m.all u (subst (In u) (brings_one b c) i))
+
+-- a union needs no more entries than it weighs
+pub needs_weigh : {ts : Types} {n : ℕ} {t : Ty} → Needs ts n → UnionOf ts t → n ≤ weight t
+needs_weigh (needs_none b i) u = omega arith
+needs_weigh (needs_members b none m) (union_any c i) = absurd (none (subst (In any) (brings_one c b) i))
+needs_weigh (needs_members {ms} b none m) (union_one {t} c l) =
+    let e : count ms ≡ count (t and no_types) = ap count (one_members m (moved (brings_one b c) l)) in
     let w = some_weight t in
     omega arith
-too_heavy es b none short (union_more {t} {u} {us} c m) =
-    let h = short (t and u and us) (λ v i. m.all v (subst (In v) (brings_one b c) i)) in
+needs_weigh (needs_members {ms} b none m) (union_more {t} {u} {us} c l) =
+    let e : count ms ≡ count (t and u and us) = ap count (one_members m (moved (brings_one b c) l)) in
     let w = count_weights (t and u and us) in
     omega arith
+
+-- where the parts would stand beyond the table, nothing fits in
+pub none_beyond : (es : List TypeEntry) (used : ℕ) (a b : TypeEntry) → length es < used → MakesUnion es es used a b None
+none_beyond es used a b lt s t hs ht f g = let q = needed (form_more f (form_more g form_none)) in (q.0, q.1, omega arith)
 
 pub some_any : (es : List TypeEntry) (used : ℕ) (a b : TypeEntry) → used ≤ length es → (a ≡ Any) ⊎ (b ≡ Any) → MakesUnion es es used a b (Some (record { entry = Any; used = used }))
 some_any es used a b low p s t hs ht f g =
@@ -136,11 +153,12 @@ module _ {types : List TypeEntry} {used : ℕ} (ps es : List TypeEntry) (a b : T
 
   -- no room for the types that arrived
   none_made : (gs hs : List TypeEntry) (r : Option Root) → r ≡ None → length gs ≡ length es → ((s t : Ty) (xs ys : Types) → Is ps (length ps) a s → Is ps (length ps) b t → Flat s xs → Flat t ys → HasNoRoom gs (xs then ys)) → MakesUnion types hs used a b r
-  none_made gs hs r none long short = subst (MakesUnion types hs used a b) (sym none) (λ s t hs ht f g u is.
+  none_made gs hs r none long short = subst (MakesUnion types hs used a b) (sym none) (λ s t hs ht f g.
       let x = flat_of f in
       let y = flat_of g in
-      let lt = too_heavy gs (two_bring x.1 y.1) (λ i. ⊎_elim (λ j. brings_no_any not_a (below hs) x.1 j) (λ j. brings_no_any not-b (below ht) y.1 j) (front_or_end x.0 i)) (short s t x.0 y.0 (below hs) (below ht) x.1 y.1) is in
-      grind (arith, common_steps))
+      let q = needed (form_more f (form_more g form_none)) in
+      let lt = no_fit gs (two_bring x.1 y.1) (λ i. ⊎_elim (λ j. brings_no_any not_a (below hs) x.1 j) (λ j. brings_no_any not-b (below ht) y.1 j) (front_or_end x.0 i)) (short s t x.0 y.0 (below hs) (below ht) x.1 y.1) q.1 in
+      (q.0, q.1, grind (arith, common_steps)))
 
   pub first_none : (fs hs : List TypeEntry) (r : Option Root) → r ≡ None → length fs ≡ length es → AddsAll ps es fs 0 a None → MakesUnion types hs used a b r
   first_none fs hs r none long d = none_made fs hs r none long (λ s t xs ys ha hb f g ms has. d s no_types xs not_a ha f (empty ps es) ms (λ u i. has u (in_front ys i)))

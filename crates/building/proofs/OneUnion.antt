@@ -115,7 +115,7 @@ the_one e = cc
 the_more : {t u : Ty} {ts us : Types} → (t and ts) ≡ (u and us) → union t ts ≡ union u us
 the_more e = cc
 
-moved : {xs ys ms : Types} → xs ≡ ys → Members ys ms → Members xs ms
+pub moved : {xs ys ms : Types} → xs ≡ ys → Members ys ms → Members xs ms
 moved {ms} e m = subst (λ x. Members x ms) (sym e) m
 
 pub union_is_one : {ts : Types} {t u : Ty} → UnionOf ts t → UnionOf ts u → t ≡ u

@@ -22,8 +22,8 @@ use Rattle.building.specs.Unions.{◌then◌, Brings, brings_none, brings_any, b
 use Rattle.building.specs.Forms.{InForm, form_any, form_pair, form_list, form_union, AllInForm, form_none, form_more}
 use Rattle.building.specs.HeadsAndTails.{OwnPart, of_any, head_of_pair, tail_of_pair, head_of_list, tail_of_list, OwnParts, parts_none, parts_more, parts_without, PartOf, part_own, part_union}
 use Rattle.building.specs.Laws.{PartOrLack, PartTold}
-use Rattle.building.specs.Entries.{Flat, flat_any, flat_one, flat_members, Open, OpenIn, Opened, HasNoRoom, AddsAll, Closes, SaysPartAny, SaysAnyPart, AddsPart, AddsParts}
-use Rattle.building.specs.Made.{Hold, PartHeld, GivesPart, UnionMade, PartAnswer, MakesPart}
+use Rattle.building.specs.Entries.{Flat, flat_any, flat_one, flat_members, Open, OpenIn, Opened, AddsAll, Closes, SaysPartAny, SaysAnyPart, AddsPart, AddsParts}
+use Rattle.building.specs.Made.{Needs, needs_none, Hold, PartHeld, GivesPart, PartNeeds, own_needs, union_needs, UnionMade, PartAnswer, MakesPart}
 use Rattle.building.proofs.OneUnion.{brings_one, own_one, own_parts_one, no_own, any_no_kind, union_no_kind}
 use Rattle.building.proofs.InOneForm.{front_or_end, flat_of, flat_brings, union_kinds, first_form, other_forms, members_forms}
 use Rattle.building.proofs.Same.{run_from}
@@ -31,8 +31,8 @@ use Rattle.building.proofs.OneMore.{in_front, at_end}
 use Rattle.building.proofs.Held.{next_held, none_after, run_held, hold_count, begun}
 use Rattle.building.proofs.AllMembers.{then_assoc, then_none}
 use Rattle.building.proofs.Filled.{filled_none}
-use Rattle.building.proofs.Unite.{arrive, union_exists}
-use Rattle.building.proofs.Closed.{empty, any_held, some_weight, too_heavy, closed_in}
+use Rattle.building.proofs.Unite.{arrive, union_exists, needed}
+use Rattle.building.proofs.Closed.{empty, any_held, some_weight, no_fit, closed_in}
 
 -- the types with parts of their own
 data HasOwn : Ty → Type 0 where
@@ -325,7 +325,7 @@ own_made : (es : List TypeEntry) (used : ℕ) (e p : TypeEntry) (side : Side) �
 own_made es used e p side f low t h form =
     let q = f low t h in
     let w = some_weight q.part in
-    record { made = q.part; is_part = part_own q.is_part; in_form = own_form q.is_part form; holds = q.holds; more = omega arith; within = low; light = omega arith; filled = filled_none es used }
+    record { made = q.part; is_part = part_own q.is_part; in_form = own_form q.is_part form; holds = q.holds; more = omega arith; within = low; light = omega arith; filled = filled_none es used; fits = (0, own_needs q.is_part, omega arith) }
 
 single_part : {s : Side} {es : List TypeEntry} {n : ℕ} {e : TypeEntry} {t p : Ty} → ((first size : ℕ) → e ≡ Union first size → ⊥) → Is es n e t → PartOf s t p → OwnPart s t p
 single_part single h (part_own o) = o
@@ -368,6 +368,9 @@ parts_of side (is_union {t} {ts} low r) form =
 is_union_part : {es : List TypeEntry} {n first size : ℕ} {side : Side} {t p : Ty} (q : PartsOf es n first size side t) → UnionOf q.ps p → PartOf side t p
 is_union_part {side} {p} q u = subst (λ x. PartOf side x p) (sym q.is_it) (part_union q.own u)
 
+needs_of : {es : List TypeEntry} {n first size k : ℕ} {side : Side} {t : Ty} (q : PartsOf es n first size side t) → Needs q.ps k → PartNeeds side t k
+needs_of {k} {side} q u = subst (λ x. PartNeeds side x k) (sym q.is_it) (union_needs q.own u)
+
 -- a part of the union is the union of these parts
 union_part : {side : Side} {t p : Ty} {ts ps : Types} → OwnParts side (t and ts) ps → PartOf side (union t ts) p → UnionOf ps p
 union_part own (part_own o) = absurd (no_own o)
@@ -388,8 +391,9 @@ module _ (es : List TypeEntry) (side : Side) {used first size from end : ℕ} {e
       let q = parts_of side (known is h) form in
       let below = q.low in
       let w = (d (omega arith) (omega arith) (q.head and q.tail) (run_here q.run)).0 refl in
-      let u = union_any q.brings (any_arrives q.brings (own_in q.own w.1 w.2)) in
-      record { made = any; is_part = is_union_part q u; in_form = form_any; holds = is_any; more = omega arith; within = low; light = omega arith; filled = filled_none es used }
+      let i = any_arrives q.brings (own_in q.own w.1 w.2) in
+      let u = union_any q.brings i in
+      record { made = any; is_part = is_union_part q u; in_form = form_any; holds = is_any; more = omega arith; within = low; light = omega arith; filled = filled_none es used; fits = (0, needs_of q (needs_none q.brings i), omega arith) }
 
   module _ (d : SaysAnyPart es from end side false) where
     no_any : {t : Ty} (q : PartsOf es used first size side t) → In any q.xs → ⊥
@@ -410,24 +414,12 @@ module _ (es : List TypeEntry) (side : Side) {used first size from end : ℕ} {e
           subst (λ z. Hold ps (length ps) z ts) (sym part) (subst (λ k. Hold ps (length ps) (take (end - from) (drop k ps)) ts) (sym at) (subst (λ k. Hold ps (length ps) (take k (drop first ps)) ts) n h))
 
       pub no_room_made : (gs : List TypeEntry) (o : Option ℕ) {r : Result (Option Root) NoRoom} (n : NoRoom) → r ≡ Err n → length fs ≡ length ss → o ≡ None → AddsParts ps fs hs side o → MakesPart es gs used e side r
-      no_room_made gs o n answer same none a low t h form = subst (PartAnswer es gs used side t) (sym answer) (go q.ps refl)
-        where
-          q : PartsOf es used first size side t
-          q = parts_of side (known is h) form
-
-          short : HasNoRoom fs q.xs
-          short = subst (AddsParts ps fs hs side) none a (q.head and q.tail) q.ps q.xs (members_held q) q.members_form q.own q.brings (no_any q)
-
-          go : (qs : Types) → q.ps ≡ qs → PartAnswer es gs used side t (Err n)
-          go no_types g =
-              let none : q.xs ≡ no_types = nothing_brought (subst (λ x. Brings x q.xs) g q.brings) in
-              let s = short no_types (λ u i. subst (λ x. In u x) none i) in
-              absurd (omega arith)
-          go (p and qs) g =
-              let u = union_exists p qs (subst (λ x. AllInForm x) g (own_forms q.own q.members_form)) in
-              let v = subst (λ x. UnionOf x u.0) (sym g) u.1 in
-              let lt = too_heavy fs q.brings (no_any q) short v in
-              (u.0, is_union_part q v, grind (arith, common_steps))
+      no_room_made gs o n answer same none a low t h form = subst (PartAnswer es gs used side t) (sym answer) (
+          let q = parts_of side (known is h) form in
+          let short = subst (AddsParts ps fs hs side) none a (q.head and q.tail) q.ps q.xs (members_held q) q.members_form q.own q.brings (no_any q) in
+          let need = needed (own_forms q.own q.members_form) in
+          let lt = no_fit fs q.brings (no_any q) short need.1 in
+          (need.0, needs_of q need.1, grind (arith, common_steps)))
 
       module _ (o : Option ℕ) (n : ℕ) (some : o ≡ Some n) (a : AddsParts ps fs hs side o) where
         open_parts : {t : Ty} (q : PartsOf es used first size side t) → OpenIn ps fs n q.xs
@@ -454,7 +446,7 @@ module _ (es : List TypeEntry) (side : Side) {used first size from end : ℕ} {e
             let m = open_parts q in
             let i = a_member m.1.members (members_count m.0 m.1) in
             let u = subst (λ k. UnionMade (ps ++ fs) k q.ps r) split (closed_in ps fs n r close (own_forms q.own q.members_form) q.brings (i.0, m.1.are_members.only i.0 i.1) m.1) in
-            record { made = u.made; is_part = is_union_part {p = u.made} q u.is_union; in_form = u.in_form; holds = u.holds; more = u.more; within = u.within; light = u.light; filled = u.filled }
+            record { made = u.made; is_part = is_union_part {p = u.made} q u.is_union; in_form = u.in_form; holds = u.holds; more = u.more; within = u.within; light = u.light; filled = u.filled; fits = (u.fits.0, needs_of q u.fits.1, u.fits.2) }
           where
             a_member : (ts : Types) → count ts ≡ n → (u : Ty) × In u ts
             a_member no_types c = absurd (some (sym c))

@@ -2,13 +2,14 @@
 use Rattle.std.proofs.Common.{ℕ, suc, ◌⊎◌, sym, subst, inl, inr, ⊎_elim, arith}
 use Rattle.std.proofs.lemmas.Bool.{cases_lt}
 use Rattle.types.specs.declared.kinds.Kind.{Kind}
-use Rattle.types.specs.Types.{Ty, Types, any, no_types, ◌and◌}
+use Rattle.types.specs.Types.{Ty, Types, any, no_types, ◌and◌, count}
 use Rattle.types.specs.Kinds.{OfKind, rank}
 use Rattle.building.specs.Unions.{◌then◌, Brings, brings_none, In, in_first, in_other, InOrder, order_none, Members, UnionOf, union_any, union_one, union_more}
 use Rattle.building.specs.Forms.{AllInForm, form_none, form_more}
 use Rattle.building.specs.Entries.{Flat, flat_any, flat_one, flat_members}
 use Rattle.building.specs.Laws.{UnionExists}
-use Rattle.building.proofs.OneUnion.{first_or_other, precedes_all, rest_in_order}
+use Rattle.building.specs.Made.{Needs, needs_none, needs_members}
+use Rattle.building.proofs.OneUnion.{any_no_kind, first_or_other, precedes_all, rest_in_order}
 use Rattle.building.proofs.InOneForm.{Kinds, front_or_end, the_only, flat_of, flat_brings, some_arrive, union_in_form}
 use Rattle.building.proofs.OneMore.{in_front, at_end, Put, put_here, put_later, put_members, put_only, again, no_lower}
 use Rattle.building.proofs.AllMembers.{then_assoc, then_none}
@@ -92,3 +93,12 @@ union_exists t ts (form_more f fs) =
     let i = some_arrive x.1 in
     let u = united a.1 a.2 (i.0, in_front r.0 i.1) in
     (u.0, u.1, union_in_form (form_more f fs) u.1)
+
+-- how many free entries their union needs
+pub needed : {ts : Types} → AllInForm ts → (n : ℕ) × Needs ts n
+needed fs =
+    let a = arrive fs in
+    ⊎_elim
+    (λ i. (0, needs_none a.1 i))
+    (λ ks. let g = gather a.0 no_types ks none_yet in (count g.members, needs_members a.1 (λ i. any_no_kind (ks any i).1) g.are_members))
+    a.2

@@ -2,13 +2,13 @@
 use Rattle.std.specs.Prelude.{◌≡◌, ℕ, ◌+◌, ◌<◌, ◌≤◌, min, Bool, ◌⊎◌, List, [], ◌∷◌, length, Some, None, Decides, Option, Ok, Err, Result}
 use Rattle.types.specs.declared.entries.TypeEntry.{TypeEntry}
 use Rattle.types.specs.declared.entries.TypeEntry.TheVariants.{CodeUnit}
-use Rattle.types.specs.Types.{Ty, Types, function, pair, list, no_types, ◌and◌, count}
+use Rattle.types.specs.Types.{Ty, Types, any, function, pair, list, union, no_types, ◌and◌, count}
 use Rattle.types.specs.Table.{entry_at, Is}
 use Rattle.types.specs.declared.entries.Root.{Root}
 use Rattle.building.specs.declared.parts.Side.{Side}
 use Rattle.building.specs.declared.parts.NoRoom.{NoRoom}
-use Rattle.building.specs.HeadsAndTails.{OwnPart, PartOf}
-use Rattle.building.specs.Unions.{UnionOf}
+use Rattle.building.specs.HeadsAndTails.{OwnPart, OwnParts, PartOf}
+use Rattle.building.specs.Unions.{Brings, In, Members, UnionOf}
 use Rattle.building.specs.Forms.{InForm}
 use Rattle.building.specs.Weights.{weight}
 
@@ -33,6 +33,11 @@ pub data StandsFor (es : List TypeEntry) (j : ℕ) : Type 0 where
 abbrev pub Filled : List TypeEntry → ℕ → ℕ → Type 0
 Filled es from to = (j : ℕ) → from ≤ j → j < to → StandsFor es j
 
+-- the union of the types ts needs n free entries: one for each member, also where there is only one; none where it is `any`
+pub data Needs (ts : Types) : ℕ → Type 0 where
+  needs_none : {xs : Types} → Brings ts xs → In any xs → Needs ts 0
+  needs_members : {xs ms : Types} → Brings ts xs → (In any xs → ⊥) → Members xs ms → Needs ts (count ms)
+
 -- m is the union of the types ts, with its parts below m.used; those from used on are new
 pub record UnionMade (es : List TypeEntry) (used : ℕ) (ts : Types) (m : Root) : Type 0 where
   pub made : Ty
@@ -43,11 +48,12 @@ pub record UnionMade (es : List TypeEntry) (used : ℕ) (ts : Types) (m : Root) 
   pub within : m.used ≤ length es
   pub light : m.used < used + weight made  -- the new entries are fewer than the type weighs
   pub filled : Filled es used m.used  -- and each stands for something
+  pub fits : (n : ℕ) × Needs ts n × (used + n ≤ length es)
 
--- the answer r: the union of ts in fs, or that there is no room for it in es
+-- the answer r: the union of ts in fs, or that the entries that it needs do not fit in from used on
 abbrev pub UnionOrNone : List TypeEntry → List TypeEntry → ℕ → Types → Option Root → Type 0
 UnionOrNone es fs used ts (Some m) = UnionMade fs used ts m
-UnionOrNone es fs used ts None = (made : Ty) → UnionOf ts made → length es < used + weight made
+UnionOrNone es fs used ts None = (n : ℕ) × Needs ts n × (length es < used + n)
 
 -- the union of the types a and b, whose parts stand below used
 abbrev pub MakesUnion : List TypeEntry → List TypeEntry → ℕ → TypeEntry → TypeEntry → Option Root → Type 0
@@ -120,6 +126,11 @@ CopyOrNone es fs used t m None = length es < used + m.used
 abbrev pub MakesCopy : List TypeEntry → List TypeEntry → ℕ → List TypeEntry → Root → Option Root → Type 0
 MakesCopy es fs used others m r = m.used ≤ length others → Filled others 0 m.used → (t : Ty) → Is others m.used m.entry t → CopyOrNone es fs used t m r
 
+-- the part on a side of the type needs n free entries: those of a union, or none where it is the type's own
+pub data PartNeeds (s : Side) : Ty → ℕ → Type 0 where
+  own_needs : {t p : Ty} → OwnPart s t p → PartNeeds s t 0
+  union_needs : {t : Ty} {ts ps : Types} {n : ℕ} → OwnParts s (t and ts) ps → Needs ps n → PartNeeds s (union t ts) n
+
 -- m is the part on a side of the type t, with its parts below m.used; those from used on are new
 pub record PartMade (es : List TypeEntry) (used : ℕ) (side : Side) (t : Ty) (m : Root) : Type 0 where
   pub made : Ty
@@ -130,12 +141,13 @@ pub record PartMade (es : List TypeEntry) (used : ℕ) (side : Side) (t : Ty) (m
   pub within : m.used ≤ length es
   pub light : m.used < used + weight made
   pub filled : Filled es used m.used
+  pub fits : (n : ℕ) × PartNeeds side t n × (used + n ≤ length es)
 
--- the answer r: the part on a side of the type t in fs, that t has none, or that there is no room for it in es
+-- the answer r: the part on a side of the type t in fs, that t has none, or that the entries that it needs do not fit in from used on
 abbrev pub PartAnswer : List TypeEntry → List TypeEntry → ℕ → Side → Ty → Result (Option Root) NoRoom → Type 0
 PartAnswer es fs used side t (Ok (Some m)) = PartMade fs used side t m
 PartAnswer es fs used side t (Ok None) = (p : Ty) → PartOf side t p → ⊥
-PartAnswer es fs used side t (Err e) = (p : Ty) × PartOf side t p × (length es < used + weight p)
+PartAnswer es fs used side t (Err e) = (n : ℕ) × PartNeeds side t n × (length es < used + n)
 
 -- the part on a side of the type e, whose parts stand below used
 abbrev pub MakesPart : List TypeEntry → List TypeEntry → ℕ → TypeEntry → Side → Result (Option Root) NoRoom → Type 0

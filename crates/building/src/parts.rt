@@ -76,7 +76,8 @@ impl<'p, 's> OpenUnion<'p, 's> {
     }
 }
 
-// The part on a side of a type: of a union, the union of the parts of its members. None where it has no such part.
+// The part on a side of a type: of a union, the union of the parts of its members. None where it has no such part;
+// `NoRoom` where the members of that union do not fit in from `a.used` on.
 // Where it is no type of the table, or not in form, the answer is free.
 pub fn part_of(types: &mut [TypeEntry], a: Root, side: Side) -> Result<Option<Root>, NoRoom>
     ensures made { MakesPart types.old types.new a.used a.entry side result }

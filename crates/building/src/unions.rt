@@ -4,8 +4,8 @@ ghost use Rattle.building.specs.Made.{Kept, MakesUnion};
 use crate::members::OpenUnion;
 use types::entries::{Root, TypeEntry};
 
-// The union of two types whose parts stand below `used`. None where its members do not fit in from `used` on.
-// Where a or b is no type in form, the answer is free.
+// The union of two types whose parts stand below `used`. None where its members do not fit in from `used` on,
+// also where there is only one. Where a or b is no type in form, the answer is free.
 pub fn union_of_two(
     types: &mut [TypeEntry],
     used: usize,

@@ -13,6 +13,7 @@ use Rattle.building.specs.Unions.{UnionOf}
 use Rattle.building.specs.Weights.{weight}
 use Rattle.building.proofs.Filled.{filled_kept, filled_joined}
 use Rattle.building.proofs.OneUnion.{union_is_one}
+use Rattle.building.proofs.Closed.{needs_weigh}
 use Rattle.checker.specs.declared.store.Store.{Store}
 use Rattle.checker.specs.declared.store.TooHeavy.{TooHeavy}
 use Rattle.checker.specs.Findings.{weigh}
@@ -27,7 +28,7 @@ PartMade old new used t None = length old < used + weight t
 pub union_part : (old new : List TypeEntry) (used : ℕ) {s t u : Ty} (r : Option Root) → UnionOf (s and t and no_types) u → UnionOrNone old new used (s and t and no_types) r → PartMade old new used u r
 union_part old new used (Some m) h w =
     subst (λ x. TypeMade new used x m) (union_is_one w.is_union h) (record { holds = w.holds; more = w.more; within = w.within; light = w.light; filled = w.filled })
-union_part old new used None h w = w _ h
+union_part old new used None h w = omega (arith, w.2, needs_weigh w.1 h)
 
 -- the part of the table below a limit
 module _ (s : Store) (limit : ℕ) {ts : List Ty} (tabled : Tabled s ts) (is-limit : s.count ≤ 8192 → 8192 ≤ length (entries s) → limit ≡ 8192 - s.count) where
