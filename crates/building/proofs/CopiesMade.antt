@@ -1,15 +1,11 @@
 -- Types copied from one run of entries to another. Assumes nothing.
-use Rattle.std.proofs.Common.{◌≡◌, ℕ, suc, ◌+◌, ◌-◌, ◌^◌, ◌<◌, ◌≤◌, List, length, set, take, drop, Some, sym, refl, ap, ◌∙◌, subst, ⊎_elim, arith}
-use borrow.Rule.Slice.PartMut.{put_mid}
-use Rattle.std.proofs.lemmas.Grind.{common_steps}
-use Rattle.std.proofs.lemmas.Bool.{cases_eq}
-use Rattle.std.proofs.lemmas.List.{get_or-take, length-take}
+use Rattle.std.proofs.Common.{◌≡◌, ℕ, suc, ◌+◌, ◌-◌, ◌^◌, ◌<◌, ◌≤◌, List, length, take, Some, sym, refl, ap, ◌∙◌, subst, arith}
+use Rattle.std.proofs.lemmas.List.{get_or-take}
 use Rattle.types.specs.declared.entries.TypeEntry.{TypeEntry}
 use Rattle.types.specs.Types.{Ty, Types}
 use Rattle.types.specs.Table.{entry_at, UnitsAt, Is, is_any, is_number, is_number_literal, is_string, is_string_literal, is_boolean, is_true, is_false, is_undefined, is_null, is_function, is_pair, is_list, is_union, Run, run_end, run_more}
 use Rattle.types.specs.declared.entries.Root.{Root}
-use Rattle.building.specs.Entries.{Puts, up, shift}
-use Rattle.building.proofs.Written.{elsewhere, here, put_long, put_holds}
+use Rattle.building.specs.Entries.{up, shift}
 use Rattle.building.specs.Made.{MakesCopy, StandsFor, a_type, a_unit}
 
 -- the entries below n stand in fs, moved up
@@ -75,37 +71,13 @@ copy_made es fs others used m {e} room fit is copies le all t h =
       filled = λ j low lt. shift_stands used m.used (j - used) j moved (omega arith) (omega arith) (all (j - used) (omega arith) (omega arith));
     }
 
--- one more of the copied entries moved up
-pub shift_one : (xs ys : List TypeEntry) (by i : ℕ) {x : TypeEntry} → i < length xs → x ≡ shift by (entry_at xs i)
-    → ((j : ℕ) → j < i → entry_at xs j ≡ shift by (entry_at ys j)) × ((j : ℕ) → i ≤ j → entry_at xs j ≡ entry_at ys j)
-    → ((j : ℕ) → j < i + 1 → entry_at (set xs i x) j ≡ shift by (entry_at ys j)) × ((j : ℕ) → i + 1 ≤ j → entry_at (set xs i x) j ≡ entry_at ys j)
-shift_one xs ys by i {x} lt e p = (
-  λ j l.
-      ⊎_elim
-      (λ q. subst (λ k. entry_at (set xs i x) k ≡ shift by (entry_at ys k)) (sym q) (here xs i x lt ∙ e ∙ ap (shift by) (p.1 i (omega arith))))
-      (λ ne. elsewhere xs i j x ne ∙ p.0 j (omega arith))
-      (cases_eq j i),
-  λ j l. elsewhere xs i j x (λ q. omega arith) ∙ p.1 j (omega arith),
-)
-
--- the entries put in, and moved up there
-pub copy_written : (es gs others ps qs : List TypeEntry) (used end : ℕ) (m : Root) {e : TypeEntry} → end < 2 ^ 64 → m.used ≤ length others → qs ≡ take m.used others → Puts gs used qs (Some end)
-    → length ps ≡ length (take (end - used) (drop used gs)) → ((j : ℕ) → j < length ps → entry_at ps j ≡ shift used (entry_at (take (end - used) (drop used gs)) j))
-    → e ≡ shift used m.entry → MakesCopy es (put_mid used (end - used) gs ps) used others m (Some (record { entry = e; used = end }))
-copy_written es gs others ps qs used end m {e} fit all is p long moved top =
-    let n = end - used in
-    let fs = put_mid used n gs ps in
-    let size : length qs ≡ m.used = ap length is ∙ simp length-take (omega arith) in
-    let at-end : end ≡ used + m.used = omega (arith, p.0) in
-    let room : end ≤ length gs = p.1 in
-    let same : length ps ≡ n = long ∙ grind (arith, common_steps) in
-    let whole = put_long gs ps used n (omega arith) same in
+-- the entries of a run moved up and written, and where they end
+pub copy_written : (es fs others qs : List TypeEntry) (used end : ℕ) (m : Root) {e : TypeEntry} → end ≡ used + m.used → end ≤ length fs → end < 2 ^ 64 → qs ≡ take m.used others
+    → e ≡ shift used m.entry → ((j : ℕ) → j < m.used → entry_at fs (used + j) ≡ shift used (entry_at qs j)) → MakesCopy es fs used others m (Some (record { entry = e; used = end }))
+copy_written es fs others qs used end m {e} at-end room fit is top moved =
     subst
     (λ k. MakesCopy es fs used others m (Some (record { entry = e; used = k })))
     (sym at-end)
     (copy_made es fs others used m (omega arith) (omega arith) top (λ j lt.
-    let low : used ≤ length gs = omega arith in
-    let l : j < length ps = omega arith in
-    let here : entry_at (take n (drop used gs)) j ≡ entry_at gs (used + j) = grind (arith, common_steps) in
     let from : entry_at qs j ≡ entry_at others j = ap (λ xs. entry_at xs j) is ∙ rw get_or-take refl in
-    put_holds gs ps used n j low l ∙ moved j l ∙ ap (shift used) (here ∙ p.2 j (omega arith) ∙ from)))
+    moved j lt ∙ ap (shift used) from))

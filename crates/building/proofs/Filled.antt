@@ -29,3 +29,7 @@ stands_kept n j kept lt (a_unit e) = a_unit (kept j lt ∙ e)
 
 pub filled_kept : {es fs : List TypeEntry} (from to : ℕ) → Kept es fs to → Filled es from to → Filled fs from to
 filled_kept from to kept f j le lt = stands_kept to j kept lt (f j le lt)
+
+-- new entries after those that are kept
+pub filled_on : {es fs : List TypeEntry} (from used to : ℕ) → Kept es fs used → Filled es from used → Filled fs used to → Filled fs from to
+filled_on from used to kept before after = filled_joined from used to (filled_kept from used kept before) after

@@ -17,5 +17,6 @@ pub mod PairsMade
 pub mod LiteralsMade
 pub mod FunctionsMade
 pub mod CopiesMade
+pub mod Fits
 pub mod Ranges
 pub mod PartsMade

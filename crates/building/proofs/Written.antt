@@ -1,7 +1,8 @@
 -- Entries written one after the other. Assumes nothing.
-use Rattle.std.proofs.Common.{◌≡◌, ℕ, ◌+◌, ◌<◌, ◌≤◌, ◌≢◌, List, length, set, sym, refl, arith, get_or-set_other, get_or-set_same}
+use Rattle.std.proofs.Common.{◌≡◌, ℕ, ◌+◌, ◌<◌, ◌≤◌, ◌≢◌, List, length, set, sym, refl, ◌∙◌, subst, ⊎_elim, arith, get_or-set_other, get_or-set_same}
 use borrow.Rule.Slice.PartMut.{put_mid}
 use Rattle.std.proofs.lemmas.Grind.{common_steps}
+use Rattle.std.proofs.lemmas.Bool.{cases_eq}
 use Rattle.types.specs.declared.entries.TypeEntry.{TypeEntry}
 use Rattle.types.specs.Types.{Ty}
 use Rattle.types.specs.Table.{entry_at, Is}
@@ -23,3 +24,15 @@ put_holds es qs used k j le lt = grind (arith, common_steps)
 
 pub put_long : (es qs : List TypeEntry) (used k : ℕ) → used + k ≤ length es → length qs ≡ k → length (put_mid used k es qs) ≡ length es
 put_long es qs used k le e = grind (arith, common_steps)
+
+-- a write from used on keeps what is below
+pub kept_more : (es fs : List TypeEntry) (used k : ℕ) (x : TypeEntry) → Kept es fs used → Kept es (set fs (used + k) x) used
+kept_more es fs used k x kept j lt = elsewhere fs (used + k) j x (λ e. omega arith) ∙ kept j lt
+
+-- what is written at k stands after the k entries before it
+pub written_more : (fs : List TypeEntry) (used k : ℕ) (f : ℕ → TypeEntry) {x : TypeEntry} → used + k < length fs → x ≡ f k → ((j : ℕ) → j < k → entry_at fs (used + j) ≡ f j) → (j : ℕ) → j < k + 1 → entry_at (set fs (used + k) x) (used + j) ≡ f j
+written_more fs used k f {x} room e before j lt =
+    ⊎_elim
+    (λ q. subst (λ i. entry_at (set fs (used + k) x) (used + i) ≡ f i) (sym q) (here fs (used + k) x room ∙ e))
+    (λ ne. elsewhere fs (used + k) (used + j) x (λ q. ne (omega arith)) ∙ before j (omega arith))
+    (cases_eq j k)

@@ -125,6 +125,11 @@ abbrev pub Puts : List TypeEntry → ℕ → List TypeEntry → Option ℕ → T
 Puts fs used xs (Some end) = (end ≡ used + length xs) × (end ≤ length fs) × ((j : ℕ) → j < length xs → entry_at fs (used + j) ≡ entry_at xs j)
 Puts fs used xs None = length fs < used + length xs
 
+-- from where the answer r says that the entries put in end, fs has the entries of es; where they do not fit in, it has all
+abbrev pub LeavesRest : List TypeEntry → List TypeEntry → Option ℕ → Type 0
+LeavesRest es fs (Some end) = (j : ℕ) → end ≤ j → entry_at fs j ≡ entry_at es j
+LeavesRest es fs None = fs ≡ es
+
 -- the index i, moved up
 abbrev pub up : ℕ → ℕ → ℕ
 up by i = min (i + by) (2 ^ 64 - 1)

@@ -110,6 +110,10 @@ FunctionOrNone es fs used ts t None = (8 < count ts) ⊎ (length es < used + (co
 abbrev pub MakesFunction : List TypeEntry → List TypeEntry → ℕ → List TypeEntry → TypeEntry → Option Root → Type 0
 MakesFunction es fs used ps e r = (ts : Types) (t : Ty) → Hold es used ps ts → Is es used e t → FunctionOrNone es fs used ts t r
 
+-- where the answer is None, the table fs is es, as it was
+abbrev pub NoneLeaves : List TypeEntry → List TypeEntry → Option Root → Type 0
+NoneLeaves es fs r = r ≡ None → fs ≡ es
+
 -- c is the type t, copied with all entries that m has in use
 pub record CopyMade (es : List TypeEntry) (used : ℕ) (t : Ty) (m c : Root) : Type 0 where
   pub holds : Is es c.used c.entry t

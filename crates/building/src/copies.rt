@@ -3,7 +3,6 @@ ghost use Rattle.std.specs.Prelude.{◌≡◌};
 ghost use Rattle.building.specs.Entries.{shift};
 ghost use Rattle.building.specs.Made.{Kept, MakesCopy};
 
-use crate::put::put;
 use types::entries::{Root, TypeEntry};
 
 // The same entry with the indexes of its parts moved up.
@@ -46,9 +45,13 @@ pub fn copied(
     ensures made { MakesCopy types.old types.new used others.now made result }
     ensures kept { Kept types.old types.new used }
 {
-    let end = put(types, used, others.get(..made.used)?)?;
-    for place in types[used..end].iter_mut() {
-        *place = shifted(*place, used);
+    let entries = others.get(..made.used)?;
+    let end = used.checked_add(made.used)?;
+    if end > types.len() {
+        return None;
+    }
+    for (k, entry) in entries.iter().enumerate() {
+        types[used + k] = shifted(*entry, used);
     }
     Some(Root {
         entry: shifted(made.entry, used),

@@ -7,6 +7,7 @@ use types::compare::same_units;
 use types::entries::{Root, TypeEntry};
 
 // Whether two types are alike part by part. Where one of them is no type of the table, the answer is free.
+#[inline(always)]
 #[cycle(equality)]
 pub fn same(types: &[TypeEntry], a: Root, b: Root) -> bool
     ensures { SaysSameType types.now a.used a.entry b.used b.entry result }
@@ -46,6 +47,7 @@ fn same_parts(types: &[TypeEntry], a: Root, b: Root) -> Option<bool>
 }
 
 // Whether two runs of entries hold the same types.
+#[inline(always)]
 #[cycle(equality)]
 fn same_runs(types: &[TypeEntry], run: Range<usize>, other: Range<usize>) -> bool
     ensures { SaysSameRuns types.now run.start run.end other.start other.end result }

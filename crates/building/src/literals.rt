@@ -3,7 +3,7 @@ ghost use Rattle.std.specs.Prelude.{◌≡◌, ◌≤◌, pos, ◌+ℤ◌};
 ghost use Rattle.building.specs.Literals.{GivesNumber, MakesString};
 ghost use Rattle.building.specs.Made.{Kept};
 
-use crate::put::put;
+use crate::put::put_one;
 use lexer::decimal::decimal;
 use lexer::decimals::BIAS;
 use lexer::read::Decoder;
@@ -41,7 +41,7 @@ pub fn string_of(types: &mut [TypeEntry], used: usize, text: &[u8]) -> Option<Ro
     let decoder = Decoder { text, at: 1 };
     let mut end = used;
     for unit in decoder {
-        end = put(types, end, &[TypeEntry::CodeUnit(unit)])?;
+        end = put_one(types, end, TypeEntry::CodeUnit(unit))?;
     }
     Some(Root {
         entry: TypeEntry::StringLiteral {

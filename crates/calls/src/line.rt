@@ -1,7 +1,5 @@
 // A line of the input, taken as a call.
-use anyhow::bail;
-use hex::FromHexError;
-use std::alloc::Global;
+use std::alloc::{AllocError, Global};
 use std::str::from_utf8;
 
 // A call to check a sheet, with a findings list of `room` entries.
@@ -26,23 +24,37 @@ fn operands_of(line: &[u8]) -> Option<(&str, usize)> {
     Some((sheet, number_of(room)?))
 }
 
-// The bytes that are written in hexadecimal, or none where the text is not of this form. `-` stands for no bytes.
-fn bytes_of(heap: Global, text: &str) -> anyhow::Result<Option<Vec<u8>>> {
-    if text.is_empty() {
+// The byte that two hexadecimal digits write.
+fn byte_of(pair: &[u8]) -> Option<u8> {
+    let [high, low] = pair else {
+        return None;
+    };
+    let high = char::from(*high).to_digit(16)?;
+    let low = char::from(*low).to_digit(16)?;
+    u8::try_from(16 * high + low).ok()
+}
+
+// The bytes that are written in hexadecimal, or none where the text is not of this form. `-` stands for no bytes. Room is taken
+// before the digits are looked at, and none of it is written past the first that is none.
+fn bytes_of(heap: Global, text: &str) -> Result<Option<Vec<u8>>, AllocError> {
+    let digits = if text == "-" { "" } else { text };
+    if text.is_empty() || digits.len() % 2 != 0 {
         return Ok(None);
     }
-    let digits = if text == "-" { "" } else { text };
-    match hex::decode(heap, digits) {
-        Ok(bytes) => Ok(Some(bytes)),
-        Err(FromHexError::OutOfMemory) => bail!("memory allocation failed"),
-        // the text is of another form, and that is no error here
-        Err(_) => Ok(None),
+    let mut bytes = Vec::with_capacity(heap, digits.len() / 2)?;
+    for pair in digits.as_bytes().chunks(2) {
+        // Not `?`: the function gives a Result, and what stands for no bytes is its Ok(None).
+        let Some(byte) = byte_of(pair) else {
+            return Ok(None);
+        };
+        bytes.push(byte)?;
     }
+    Ok(Some(bytes))
 }
 
 // The call that a line writes, or none where it writes no call.
-pub fn request_of(heap: Global, line: &[u8]) -> anyhow::Result<Option<Request>> {
-    // Not `?`: the function gives a Result, and what stands for no call is its Ok(None).
+pub fn request_of(heap: Global, line: &[u8]) -> Result<Option<Request>, AllocError> {
+    // Not `?`, as above.
     let Some((text, room)) = operands_of(line) else {
         return Ok(None);
     };

@@ -1,5 +1,5 @@
 -- How many notes an expression makes, and the notes of the last statement. Assumes nothing.
-use Rattle.std.proofs.Common.{◌≡◌, ℕ, suc, ◌+◌, ◌*◌, ◌≤◌, List, [], ◌∷◌, ◌++◌, length, sym, refl, ap, ◌∙◌, append_assoc, append-nil, arith, length-append}
+use Rattle.std.proofs.Common.{◌≡◌, ℕ, suc, ◌+◌, ◌*◌, ◌≤◌, List, [], ◌∷◌, ◌++◌, length, sym, refl, ap, ◌∙◌, subst, append_assoc, append-nil, arith, length-append}
 use Rattle.types.specs.Types.{Ty, boolean}
 use Rattle.building.proofs.Closed.{some_weight}
 use Rattle.registers.specs.Meaning.{Meaning}
@@ -55,6 +55,10 @@ module _ {sheet : List ℕ} {Γ : Meaning} where
   last_typed (s ∷ ss) (typed_more {ms} x xs) =
       let r = last_typed ss xs in
       (ms ++ r.0, r.1, r.2, typed_more x r.3, r.4, ap (λ ns. ms ++ ns) r.5 ∙ sym (append_assoc ms r.0 r.1))
+
+  pub typed_last : {ss : List Expr} {e : Expr} {t : Ty} {ms ls : List Note} → AllTyped sheet Γ ss ms → Typed sheet Γ e t ls → AllTyped sheet Γ (ss ++ e ∷ []) (ms ++ ls)
+  typed_last {e} {ls} typed_none y = subst (λ ns. AllTyped sheet Γ (e ∷ []) ns) (append-nil ls) (typed_more y typed_none)
+  typed_last (typed_more {ms} {ns} x xs) y = rw append_assoc (typed_more x (typed_last xs y))
 
 -- what is noted is few by its load
 

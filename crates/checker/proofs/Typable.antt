@@ -152,7 +152,10 @@ module _ (sheet : List ℕ) (Γ : Meaning) (sound : Sound Γ) where
       let u = union_exists m.0 (n.0 and no_types) (two_forms (typed_form m.2) (typed_form n.2)) in
       (_, _, typed_choice l.2 m.2 n.2 u.1)
 
-  all_typing_exists : {es : List Expr} → AllLegible sheet es → (ns : List Note) × AllTyped sheet Γ es ns
+  pub typing_exists : {e : Expr} → LegibleExpr sheet e → (t : Ty) × (ns : List Note) × Typed sheet Γ e t ns × InForm t
+  typing_exists x = let r = typable x in (r.0, r.1, r.2, typed_form r.2)
+
+  pub all_typing_exists : {es : List Expr} → AllLegible sheet es → (ns : List Note) × AllTyped sheet Γ es ns
   all_typing_exists legible_none = (_, typed_none)
   all_typing_exists (legible_more x xs) =
       let a = typable x in

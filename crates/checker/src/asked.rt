@@ -53,7 +53,9 @@ fn is_part(types: &[TypeEntry], i: usize, j: usize) -> bool
     j < i && is_type(entry_at(types, j))
 }
 
-// Whether an entry is of a known kind, and its parts stand below i, and are of the kinds that can stand there.
+// Whether an entry is of a known kind, and its parts stand below i, and are of the kinds that can stand there. Inlined, as most
+// entries have no parts.
+#[inline(always)]
 fn is_orderly(types: &[TypeEntry], i: usize, e: TypeEntry) -> bool
     ensures { Decides result (Orderly types.now i e) }
 {

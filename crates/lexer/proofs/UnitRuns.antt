@@ -1,90 +1,80 @@
--- The units that a decoder gives, one call after another, beside those of a list. Assumes nothing.
+-- The units of a text, one after another, beside those of a list. Assumes nothing.
 use Rattle.std.proofs.lemmas.Grind.{common_steps}
-use Rattle.std.proofs.Common.{rules, arith, true, false, Bool, eqb, Decides, MatchOption, IfSome, length, ◌≡◌, ℕ, List, [], ◌∷◌, ◌++◌, get_or, drop, Option, Some, None, Iter, sym, refl, ap, ◌∙◌, subst}
-use Rattle.std.proofs.lemmas.Bool.{false≢true, eqb-true, eq-eqb}
-use Rattle.std.proofs.lemmas.Option.{none-some}
-use Rattle.std.proofs.lemmas.List.{append_cancel_left}
-use Rattle.std.specs.Iterator.{Yields, ComparesItemsByEq}
-use Rattle.std.specs.Iterator.Adapters.{copied_source, copied_steps}
-use Rattle.std.specs.List.{AllZip}
-use Rattle.std.specs.Slice.Iter.{iter_rest, iter_steps}
-use Rattle.std.specs.declared.iter.Copied.{Copied}
+use Rattle.std.proofs.Common.{arith, Bool, true, false, not, eqb, Decides, ◌≡◌, ℕ, ◌+◌, ◌<◌, ◌≤◌, List, [], ◌∷◌, length, get_or, drop, Option, Some, None, sym, refl, ap, subst}
+use Rattle.std.proofs.lemmas.List.{drop_more, drop_all}
+use Rattle.std.specs.Option.{option_eq}
+use Rattle.std.specs.Cmp.Lexicographic.{pointwise}
+use Rattle.std.proofs.lemmas.Slice.Eq.{bytes_eq-Decides}
 use Rattle.lexer.specs.Classes.{class}
-use Rattle.lexer.specs.Strings.{Writes, Closes, more, Decodes, quoted}
-use Rattle.lexer.specs.Decoding.{GivesUnit, StringAt, NoString}
-use Rattle.lexer.specs.declared.classes.Class.TheVariants.{Quote}
-use Rattle.lexer.specs.declared.read.Decoder.{Decoder}
-use Rattle.lexer.specs.declared.strings.Quoted.{Quoted}
-use Rattle.lexer.proofs.Decodings.{after_unit, closes_once, no_more, decodes_once, all_string, other_string}
+use Rattle.lexer.specs.Strings.{Closes, close, more, Decodes, quoted}
+use Rattle.lexer.specs.Decoding.{Next}
+use Rattle.lexer.specs.declared.classes.Class.TheVariants.{Other, Quote}
+use Rattle.lexer.proofs.Decodings.{first_unit, no_more}
 
--- the list begins with what a call gave, or is empty where it gave none
-abbrev Front : {A : Type 0} → Option A → List A → Type 0
-Front {A} o xs = MatchOption o (xs ≡ []) (λ x. (rest : List A) × (xs ≡ x ∷ rest))
+-- the first i units agree: the text is a string of the units where the rest of it is one of the rest of them
+pub record Agrees (text units : List ℕ) (at i : ℕ) : Type 0 where
+  pub on : Closes (get_or text 0 0) (drop at text) (drop i units) [] → Decodes text units
+  pub back : Decodes text units → Closes (get_or text 0 0) (drop at text) (drop i units) []
 
-module _ (q : ℕ) (is : class q ≡ Quote) where
-  written : (s t : Decoder) (u : ℕ) → q ≡ get_or s.text.now 0 0 → GivesUnit s (Some u) t → Writes q (drop s.at s.text.now) u (drop t.at t.text.now)
-  written s t u e g = grind arith
+-- what `!=` tells of a unit that was given
+pub given_other : (o : Option ℕ) (u : ℕ) (r : Bool) → r ≡ not (option_eq eqb o (Some u)) → r ≡ true → o ≡ Some u → ⊥
+given_other o u r e t h = grind (arith, common_steps)
 
-  one_less : (s t : Decoder) (u : ℕ) (us : List ℕ) → q ≡ get_or s.text.now 0 0 → GivesUnit s (Some u) t → Closes q (drop s.at s.text.now) us [] → (vs : List ℕ) × (us ≡ u ∷ vs) × Closes q (drop t.at t.text.now) vs []
-  one_less s t u us e g c =
-      let w = written s t u e g in
-      let rest = after_unit q is _ _ w c in
-      (rest.0, (closes_once q is _ _ refl c (more w rest.1)).0, rest.1)
+pub given_same : (o : Option ℕ) (u : ℕ) (r : Bool) → r ≡ not (option_eq eqb o (Some u)) → r ≡ false → o ≡ Some u
+given_same None u r e t = grind (arith, common_steps)
+given_same (Some v) u r e t = grind (arith, common_steps)
 
-  -- the calls gave the first of the units
-  gave_first : (xs : List ℕ) (s t : Decoder) (us : List ℕ) → q ≡ get_or s.text.now 0 0 → Yields GivesUnit s xs t → Closes q (drop s.at s.text.now) us [] → (vs : List ℕ) × (us ≡ xs ++ vs) × (q ≡ get_or t.text.now 0 0) × Closes q (drop t.at t.text.now) vs []
-  gave_first [] s t us e y c = let kept = subst (λ (d : Decoder). (q ≡ get_or d.text.now 0 0) × Closes q (drop d.at d.text.now) us []) y (e, c) in (us, refl, kept.0, kept.1)
-  gave_first (x ∷ xs) s t us e (j, g, y) c =
-      let less = one_less s j x us e g c in
-      let rest = gave_first xs j t less.0 (e ∙ sym (ap (λ l. get_or l 0 0) g.text)) y less.2 in
-      (rest.0, less.1 ∙ ap (λ l. x ∷ l) rest.1, rest.2, rest.3)
+-- a text of one byte or more
+front : (text : List ℕ) → class (get_or text 0 0) ≡ Quote → text ≡ get_or text 0 0 ∷ drop 1 text
+front [] is = let none : Other ≡ Quote = is in cc
+front (b ∷ bs) is = refl
 
-  -- one more call
-  gave_next : (o : Option ℕ) (s t : Decoder) (us : List ℕ) → q ≡ get_or s.text.now 0 0 → GivesUnit s o t → Closes q (drop s.at s.text.now) us [] → Front o us
-  gave_next o s t us e g c = search (rules, no_more, one_less)
+only : (q : ℕ) (bs : List ℕ) → Closes q bs [] [] → bs ≡ q ∷ []
+only q _ close = refl
 
--- the same of a list
-list_first : (ys : List ℕ) (s t : Copied (Iter ℕ)) → Yields (copied_steps iter_steps) s ys t → iter_rest (copied_source s) ≡ ys ++ iter_rest (copied_source t)
-list_first [] s t y = ap (λ d. iter_rest (copied_source d)) y
-list_first (y ∷ ys) s t (j, (Some b, g, e), more_of) = let same : y ≡ b.now = cc in g ∙ ap (λ l. b.now ∷ l) (list_first ys j t more_of) ∙ ap (λ x. x ∷ ys ++ iter_rest (copied_source t)) (sym same)
-list_first (y ∷ ys) s t (j, (None, g, e), more_of) = absurd (none-some _ (sym e))
+-- the unit that stands there comes first
+unit_differs : (q : ℕ) → class q ≡ Quote → (text : List ℕ) (at : ℕ) (o : Option ℕ) (next : ℕ) {u : ℕ} {us : List ℕ} → Next q text at o next → Closes q (drop at text) (u ∷ us) [] → (o ≡ Some u → ⊥) → ⊥
+unit_differs q is text at None next n c e = no_more q is _ n.0 c
+unit_differs q is text at (Some v) next n c e = e (ap Some (first_unit q is _ _ n.0 c).0)
 
-list_next : (o : Option ℕ) (s t : Copied (Iter ℕ)) → copied_steps iter_steps s o t → Front o (iter_rest (copied_source s))
-list_next o s t h = grind (arith, common_steps)
+closing : (text us : List ℕ) → Decodes text us → Closes (get_or text 0 0) (drop 1 text) us []
+closing _ us (quoted is c) = c
 
-same_items : (xs ys : List ℕ) → AllZip (λ x y. eqb x y ≡ true) xs ys → xs ≡ ys
-same_items [] [] z = refl
-same_items [] (y ∷ ys) z = absurd z
-same_items (x ∷ xs) [] z = absurd z
-same_items (x ∷ xs) (y ∷ ys) z = let first = eqb-true x y z.0 in let others = same_items xs ys z.1 in cc
+pub unquoted : (text us : List ℕ) → (class (get_or text 0 0) ≡ Quote → ⊥) → Decodes text us → ⊥
+unquoted _ us h (quoted is c) = h is
 
--- what the last two calls gave tells whether the two are the same
-told : (r : Bool) (o p : Option ℕ) (us vs : List ℕ) → Front o us → Front p vs →
-    MatchOption o (MatchOption p (r ≡ true) (λ _. r ≡ false)) (λ x. (r ≡ false) × IfSome p (λ y. eqb x y ≡ false)) → Decides r (us ≡ vs)
-told r o p us vs f g l = grind arith
+module _ (text units : List ℕ) (is : class (get_or text 0 0) ≡ Quote) where
+  pub agrees_first : Agrees text units 1 0
+  agrees_first = record {
+    on = λ c. subst (λ l. Decodes l units) (sym (front text is)) (quoted is c);
+    back = closing text units;
+  }
 
-closing : (text us : List ℕ) → Decodes text us → (class (get_or text 0 0) ≡ Quote) × Closes (get_or text 0 0) (drop 1 text) us []
-closing _ us (quoted is c) = (is, c)
+  -- s is the text that the decoder has
+  module _ (s : List ℕ) (same : s ≡ text) (at i next : ℕ) (a : Agrees text units at i) (h : i < length units) (o : Option ℕ) (n : Next (get_or s 0 0) s at o next) where
+    given : Next (get_or text 0 0) text at o next
+    given = subst (λ l. Next (get_or l 0 0) l at o next) same n
 
--- a decoder of a string gives the units of a list
-pub gives_units : (d : Decoder) (us units : List ℕ) (other : Copied (Iter ℕ)) (r : Bool) → Decodes d.text.now us → d.at ≡ 1 → iter_rest (copied_source other) ≡ units →
-    ComparesItemsByEq GivesUnit (λ s it. it ≡ s) (copied_steps iter_steps) d other eqb r → Decides r (Decodes d.text.now units)
-gives_units d us units other r decodes at begins (it, xs, ys, o, p, u, v, b, (s, ours, ours_next), (t, theirs, theirs_next), zip, last) =
-    let here = closing d.text.now us decodes in
-    let q = get_or d.text.now 0 0 in
-    let first = gave_first q here.0 xs d s us refl ours (subst (λ i. Closes q (drop i d.text.now) us []) (sym at) here.1) in
-    let next = gave_next q here.0 o s u first.0 first.2 ours_next first.3 in
-    let listed : units ≡ ys ++ iter_rest (copied_source t) = sym begins ∙ sym (ap (λ l. iter_rest (copied_source l)) b) ∙ list_first ys it t theirs in
-    let same : xs ≡ ys = same_items xs ys zip in
-    let answer = told r o p first.0 (iter_rest (copied_source t)) next (list_next p t v theirs_next) last in (
-      λ e. let whole : us ≡ units = first.1 ∙ ap (λ l. l ++ first.0) same ∙ ap (λ l. ys ++ l) (answer.0 e) ∙ sym listed in subst (Decodes d.text.now) whole decodes,
-      λ e. answer.1 (append_cancel_left ys _ _ (sym (ap (λ l. l ++ first.0) same) ∙ sym first.1 ∙ decodes_once d.text.now us units decodes e ∙ listed)),
-    )
+    left : drop i units ≡ get_or units i 0 ∷ drop (i + 1) units
+    left = drop_more units i 0 h
 
--- a string that was found, where it is the whole text
-pub whole_text : (t : List ℕ) (o : Option Quoted) (r : Bool) (P : Quoted → Type 0) → MatchOption o (NoString t) (StringAt t) → MatchOption o (r ≡ false) P → ((s : Quoted) → P s → r ≡ eqb s.len (length t)) → r ≡ true → (us : List ℕ) × Decodes t us
-whole_text t o r P h k f e = grind (arith, common_steps)
+    pub agrees_more : o ≡ Some (get_or units i 0) → Agrees text units next (i + 1)
+    agrees_more e =
+        let n = subst (λ r. Next (get_or text 0 0) text at r next) e given in
+        record {
+          on = λ c. a.on (subst (λ l. Closes (get_or text 0 0) (drop at text) l []) (sym left) (more n.0 c));
+          back = λ d. (first_unit (get_or text 0 0) is _ _ n.0 (subst (λ l. Closes (get_or text 0 0) (drop at text) l []) left (a.back d))).1;
+        }
 
-pub no_whole_text : (t us : List ℕ) (o : Option Quoted) (r : Bool) (P : Quoted → Type 0) → MatchOption o (NoString t) (StringAt t) → MatchOption o (r ≡ false) P → ((s : Quoted) → P s → r ≡ eqb s.len (length t)) → r ≡ false → Decodes t us → ⊥
-no_whole_text t us (Some s) r P h k f e d = false≢true (sym e ∙ f s k ∙ eq-eqb _ _ (other_string t s us h d).0)
-no_whole_text t us None r P h k f e d = all_string t us h d
+    pub agrees_not : (o ≡ Some (get_or units i 0) → ⊥) → Decodes text units → ⊥
+    agrees_not e d = unit_differs (get_or text 0 0) is text at o next given (subst (λ l. Closes (get_or text 0 0) (drop at text) l []) left (a.back d)) e
+
+  -- no unit is left: the text is a string of them where only the quote is left of it
+  pub agrees_whole : (at i : ℕ) → Agrees text units at i → length units ≤ i → Decides (pointwise eqb (drop at text) (get_or text 0 0 ∷ [])) (Decodes text units)
+  agrees_whole at i a h =
+      let q = get_or text 0 0 in
+      let none : drop i units ≡ [] = drop_all i units h in
+      let same = bytes_eq-Decides (drop at text) (q ∷ []) in (
+        λ e. a.on (subst (λ l. Closes q l (drop i units) []) (sym (same.0 e)) (subst (λ l. Closes q (q ∷ []) l []) (sym none) close)),
+        λ d. same.1 (only q _ (subst (λ l. Closes q (drop at text) l []) none (a.back d))),
+      )

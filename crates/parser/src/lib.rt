@@ -21,7 +21,9 @@ use lexer::refusal::Refusal;
 
 // Reads a sheet into the tree table. The other tables are those that a check of the sheet takes, and what they hold after
 // is free. Each call that takes them says that they come back, as long as they were (`lent`): of loans in a struct that
-// is lent, a proof knows only what the call's clauses tell.
+// is lent, a proof knows only what the call's clauses tell. Inlined, so that a caller that makes the tables need not fill
+// those whose lengths alone are read.
+#[inline(always)]
 #[tactic(auto, using(crate::proofs::Faults::told_first))]
 pub fn read(
     sheet: &[u8],

@@ -11,7 +11,10 @@ use Rattle.types.specs.declared.kinds.Kind.{Kind}
 use Rattle.types.specs.declared.kinds.Verdict.TheVariants as verdicts
 use Rattle.types.specs.Values.{Decimal, Text, Value, a_number, a_string, a_function, a_pair, canonical, units16}
 use Rattle.types.specs.Types.{Ty, Types, any, number_literal, string_literal, union, pair, list, ◌and◌, count, Meet, Belongs, in_any, in_number_literal, in_string_literal, in_function, in_pair, pair_in_list, in_union, BelongsToSome, to_first, to_other}
+use Rattle.std.specs.Bool.{MatchBool}
+use Rattle.std.specs.List.{zip, AllWithin, HoldsAt}
 use Rattle.std.specs.Option.{unwrap_or}
+use Rattle.std.proofs.lemmas.Slice.Zip.{length-zip, get_or-zip}
 use Rattle.types.specs.declared.entries.Root.{Root}
 use Rattle.types.specs.Roots.{root_at}
 use Rattle.types.specs.Inner.{SaysSomeMeet, SaysMeetByParts}
@@ -281,6 +284,13 @@ units_same es first other us vs long u v same =
 pub entries_Decides : (a b : TypeEntry) → Decides (eq-value.it a b) (a ≡ b)
 entries_Decides a b = search rules
 
+-- of two entries: they are equal; they are not both the same code unit
+abbrev pub Equal : TypeEntry × TypeEntry → Type 0
+Equal p = p.0 ≡ p.1
+
+abbrev pub NoUnit : TypeEntry × TypeEntry → Type 0
+NoUnit p = (u : ℕ) → p.0 ≡ CodeUnit u → p.1 ≡ CodeUnit u → ⊥
+
 -- a part of the table, as a slice
 part_at : (es : List TypeEntry) (first size k : ℕ) (x : TypeEntry) → k < size → first + size ≤ length es → get_or (take (first + size - first) (drop first es)) k x ≡ entry_at es (first + k)
 part_at es first size k x lt low =
@@ -291,15 +301,32 @@ part_at es first size k x lt low =
 part_long : (es : List TypeEntry) (first size : ℕ) → first + size ≤ length es → length (take (first + size - first) (drop first es)) ≡ size
 part_long es first size low = simp (length-take, length-drop) (omega arith)
 
-pub units_alike : (es : List TypeEntry) (first other : ℕ) {size : ℕ} {r : Bool} (us vs : List ℕ) → length us ≡ size → length vs ≡ size → first + size ≤ length es → other + size ≤ length es → UnitsAt es first us → UnitsAt es other vs → Decides r (take (first + size - first) (drop first es) ≡ take (other + size - other) (drop other es)) → Decides r (us ≡ vs)
-units_alike es first other {size} us vs p q low high u v d =
-    let m = part_long es first size low in
-    let n = part_long es other size high in (
-      λ o. units_same es first other us vs (p ∙ sym q) u v (λ k lt. let l : k < size = omega arith in sym (part_at es first size k Unused l low) ∙ ap (λ l. entry_at l k) (d.0 o) ∙ part_at es other size k Unused l high),
-      λ e. d.1 (same_lists _ _ (m ∙ sym n) (λ k x lt.
-          let l : k < size = omega arith in
-          part_at es first size k x l low ∙ u k (omega arith) ∙ ap (λ ws. CodeUnit (slice_index ws k)) e ∙ sym (v k (omega arith)) ∙ sym (part_at es other size k x l high))),
-    )
+-- the pairs of two runs of entries, each as a slice
+module _ (es : List TypeEntry) (first other size : ℕ) (low : first + size ≤ length es) (high : other + size ≤ length es) where
+  abbrev pairs : List (TypeEntry × TypeEntry)
+  pairs = zip (take (first + size - first) (drop first es)) (take (other + size - other) (drop other es))
+
+  pairs_long : length pairs ≡ size
+  pairs_long = omega (arith, length-zip (take (first + size - first) (drop first es)) (take (other + size - other) (drop other es)), part_long es first size low, part_long es other size high)
+
+  pair_at : (k : ℕ) → k < size → get_or pairs k (Unused, Unused) ≡ (entry_at es (first + k), entry_at es (other + k))
+  pair_at k l =
+      get_or-zip _ _ k (Unused, Unused) (omega (arith, part_long es first size low)) (omega (arith, part_long es other size high))
+      ∙ ap (λ x. (x, get_or (take (other + size - other) (drop other es)) k Unused)) (part_at es first size k Unused l low)
+      ∙ ap (λ y. (entry_at es (first + k), y)) (part_at es other size k Unused l high)
+
+  -- where each pair is of equal entries, or one is not twice the same code unit
+  pub units_alike : (r : Bool) (us vs : List ℕ) → length us ≡ size → length vs ≡ size → UnitsAt es first us → UnitsAt es other vs → MatchBool r (AllWithin Equal pairs 0 (length pairs)) ((k : ℕ) × (k < length pairs) × HoldsAt NoUnit pairs k) → Decides r (us ≡ vs)
+  units_alike true us vs p q u v h = (
+    λ o. units_same es first other us vs (p ∙ sym q) u v (λ k lt. let l : k < size = omega arith in subst Equal (pair_at k l) (h k (Unused, Unused) (omega arith) (omega (arith, pairs_long)))),
+    λ e. refl,
+  )
+  units_alike false us vs p q u v h =
+      let k = h.0 in
+      let l : k < size = omega (arith, h.1, pairs_long) in (
+        λ o. absurd (both_ways false refl o),
+        λ e. absurd (subst NoUnit (pair_at k l) (h.2 (Unused, Unused)) (slice_index us k) (u k (omega arith)) (v k (omega arith) ∙ ap (λ ws. CodeUnit (slice_index ws k)) (sym e))),
+      )
 
 pub units_agree : (es : List TypeEntry) (first : ℕ) (us vs : List ℕ) → length us ≡ length vs → UnitsAt es first us → UnitsAt es first vs → us ≡ vs
 units_agree es first us vs long u v = units_same es first first us vs long u v (λ m lt. refl)

@@ -17,5 +17,8 @@ pub fn same_units(types: &[TypeEntry], first: usize, other: usize, count: usize)
 {
     run_below(first, count, types.len())
         && run_below(other, count, types.len())
-        && types[first..first + count] == types[other..other + count]
+        && types[first..first + count]
+            .iter()
+            .zip(&types[other..other + count])
+            .all(|pair| matches!(pair, (TypeEntry::CodeUnit(u), TypeEntry::CodeUnit(v)) if u == v))
 }

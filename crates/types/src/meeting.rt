@@ -25,7 +25,7 @@ pub fn meets(types: &[TypeEntry], a: Root, b: Root) -> bool
             None => false,
         },
         (_, TypeEntry::Union { first, count }) => match b.run(first, count) {
-            Some(members) => some_meets(types, members, a),
+            Some(members) => meets_some(types, a, members),
             None => false,
         },
         (x, y) => {
@@ -50,6 +50,21 @@ fn some_meets(types: &[TypeEntry], run: Range<usize>, other: Root) -> bool
 {
     for k in run {
         if meets(types, Root::at(types, k), other) {
+            return true;
+        }
+    }
+    false
+}
+
+// Whether a type meets one of the types in a run of entries. Apart from the function above, so that each type keeps its
+// side: the parts of two types are then asked in one order, whichever of the two a union holds.
+#[inline(never)]
+#[cycle(meeting)]
+fn meets_some(types: &[TypeEntry], other: Root, run: Range<usize>) -> bool
+    ensures { SaysSomeMeet types.now run.start run.end other.used other.entry result }
+{
+    for j in run {
+        if meets(types, other, Root::at(types, j)) {
             return true;
         }
     }

@@ -7,6 +7,9 @@ use Rattle.building.proofs.functions.function_of.Goals as goal
 pub returns-then-not-is_few-clause-made : goal.returns-then-not-is_few-clause-made
 returns-then-not-is_few-clause-made c ts t hs ht = let all = hold_count hs in inl (grind arith)
 
+pub returns-then-not-run_below-clause-made : goal.returns-then-not-run_below-clause-made
+returns-then-not-run_below-clause-made c ts t hs ht = let all = hold_count hs in inr (grind arith)
+
 pub returns-in_err-result_at-clause-made : goal.returns-in_err-result_at-clause-made
 returns-in_err-result_at-clause-made c ts t hs ht = let all = hold_count hs in grind (arith, common_steps, inr, c.in_err-result_at.ensures.written)
 

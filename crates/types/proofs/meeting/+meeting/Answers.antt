@@ -8,7 +8,7 @@ pub meets-returns-in-Some : goal.meets-returns-in-Some
 meets-returns-in-Some t c = union_meets _ _ c.in-Union-default.is-0 c.in-Some.ensures.0 c.in-Some.ensures.1 c.some_meets.ensures
 
 pub meets-returns-in-Some-run : goal.meets-returns-in-Some-run
-meets-returns-in-Some-run t c = flip (union_meets _ _ c.in_default-Union.is-1 c.in-Some-run.ensures.0 c.in-Some-run.ensures.1 c.some_meets-in-Some-run.ensures)
+meets-returns-in-Some-run t c = flip (union_meets _ _ c.in_default-Union.is-1 c.in-Some-run.ensures.0 c.in-Some-run.ensures.1 c.meets_some.ensures)
 
 pub meets-returns-in_default-2 : goal.meets-returns-in_default-2
 meets-returns-in_default-2 t c = flip (any_meets (sym c.kind_of-in_default.ensures ∙ c.in_default-2.is-1) c.in_default.not-Union-1)
@@ -26,10 +26,16 @@ pub meets-returns-in-ByParts : goal.meets-returns-in-ByParts
 meets-returns-in-ByParts t c = by_parts _ c.unwrap_or.ensures c.parts_meet.ensures (sym c.in-Some-Some.ensures) (sym c.in-Some-Some.ensures') (sym c.in-ByParts.ensures.known)
 
 pub some_meets-returns-then-meets : goal.some_meets-returns-then-meets
-some_meets-returns-then-meets t c = some_met _ c.in-Some.k (omega (arith, c.in-Some.ensures.steps)) (omega (arith, c.in-Some.ensures.steps)) (at_first _ c.at.ensures c.if-meets.ensures)
+some_meets-returns-then-meets t c = some_met _ _ (omega (arith, c.in-Some.ensures.steps)) (omega (arith, c.in-Some.ensures.steps)) (at_first _ c.at.ensures c.if-meets.ensures)
 
 pub some_meets-returns : goal.some_meets-returns
 some_meets-returns t c = none_met _ (λ m le lt. c.loop-k.invariant.2 m le (omega (arith, c.in-None.ensures.steps)))
+
+pub meets_some-returns-then-meets : goal.meets_some-returns-then-meets
+meets_some-returns-then-meets t c = some_met _ _ (omega (arith, c.in-Some.ensures.steps)) (omega (arith, c.in-Some.ensures.steps)) (at_first _ c.at.ensures (flip c.if-meets.ensures))
+
+pub meets_some-returns : goal.meets_some-returns
+meets_some-returns t c = none_met _ (λ m le lt. c.loop-j.invariant.2 m le (omega (arith, c.in-None.ensures.steps)))
 
 pub parts_meet-returns-in_err-part-in-Pair-Pair : goal.parts_meet-returns-in_err-part-in-Pair-Pair
 parts_meet-returns-in_err-part-in-Pair-Pair t c = first_broken _ _ c.from_residual.ensures (λ s h. (pair_low c.in-Pair-Pair.is-0 h).0) c.in_err-part-in-Pair-Pair.ensures
